@@ -1,0 +1,8 @@
+pub mod Sums
+pub mod Past
+pub mod Answers
+pub mod Runs
+pub mod Article16
+pub mod Tally
+pub mod Laws
+pub mod Examples

@@ -1,0 +1,10 @@
+pub mod Tests
+pub mod Keyed
+pub mod Limits
+pub mod Money
+pub mod Quotas
+pub mod Orders
+pub mod Calls
+pub mod Refusals
+pub mod Lists
+pub mod Laws
