@@ -1,5 +1,5 @@
 -- "The history's answer is the refusal list's number, 1 left aside, read over the history before the call": what each call reads.
-use Prim.Native.Nat.{ℕ, zero, suc, _+_}
+use Prim.Native.Nat.{ℕ, _+_}
 use mathlib.Core.Bool.{Bool, true, false, _&&_, _||_}
 use mathlib.Core.List.{List, [], _∷_}
 use lib.Dec.{eqb, ltb, leb}
@@ -9,7 +9,7 @@ use Rattle.rules.specs.Limits.{mostGroups, mostUnits, mostDeclarers}
 use Rattle.rules.specs.Quotas.{inForce}
 use Rattle.rules.specs.Orders.{Rule}
 use Rattle.rules.specs.Calls.{accepted, refused}
-use Rattle.rules.specs.Refusals.{refusal}
+use Rattle.rules.specs.Refusals.{refusal, unlessRefused}
 use Rattle.rules.specs.Lists.{enrolRules, attachRules, detachRules, regularRules, raiseRules, withdrawRules, ownQuotaRules, orderRules, fillRules, cancelRules, closeRules}
 use Rattle.rules.specs.declared.calls.Call.{Call}
 use Rattle.rules.specs.declared.calls.Call.the-variants.{Enrol, Attach, Detach, Regular, Raise, Withdraw, OwnQuota, Order, Fill, Cancel, Close}
@@ -62,12 +62,6 @@ orderReads N h unit = record {
 -- the number was given since the close
 abbrev pub placeReads : History → ℕ → PlaceReads
 placeReads h k = record { given = within 1 (length (h .orders)) k; kind = (orderAt h k) .kind; price = (orderAt h k) .price; «open» = (orderAt h k) .«open» }
-
--- what follows where nothing refuses, and what where something does
-module _ {A : Type 0} where
-  abbrev pub unlessRefused : ℕ → A → A → A
-  unlessRefused zero a b = a
-  unlessRefused (suc r) a b = b
 
 -- for N places and a market's rule of acceptance
 module _ (N : ℕ) (rule : Rule) where

@@ -10,9 +10,10 @@ use Rattle.rules.specs.Money.{amount}
 use Rattle.rules.specs.Orders.{isBuy, Rule}
 use Rattle.rules.specs.declared.calls.Call.{Call}
 use Rattle.rules.specs.declared.calls.Call.the-variants.{Enrol, Attach, Detach, Regular, Raise, Withdraw, OwnQuota, Order, Fill, Cancel, Close}
-use Rattle.history.specs.Sums.{when}
+use Rattle.rules.specs.Refusals.{unlessRefused}
+use Rattle.rules.specs.Sums.{when}
 use Rattle.history.specs.Past.{History, orderAt}
-use Rattle.history.specs.Answers.{groupOf, unlessRefused, refusalOf}
+use Rattle.history.specs.Answers.{groupOf, refusalOf}
 use Rattle.history.specs.Runs.{next}
 
 -- the four parts of the formula, in mils

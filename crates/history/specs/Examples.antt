@@ -15,7 +15,7 @@ use Rattle.rules.specs.declared.calls.Call.{Call}
 use Rattle.rules.specs.declared.calls.Call.the-variants.{Enrol, Attach, Detach, Regular, Raise, Withdraw, OwnQuota, Order, Fill, Cancel, Close}
 use Rattle.rules.specs.declared.calls.Answer.{Answer}
 use Rattle.rules.specs.Keyed.{find, put, without}
-use Rattle.history.specs.Sums.{when, total}
+use Rattle.rules.specs.Sums.{when, total}
 use Rattle.history.specs.Past.{History, atOpening, groupAt, filledMoney, openIn, boughtIn, soldIn, moneyOf, netIn}
 use Rattle.history.specs.Answers.{isTaken, refusals, refusalOf, numberGiven, answer}
 use Rattle.history.specs.Runs.{figure, accept, next, after, answers}

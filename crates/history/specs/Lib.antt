@@ -1,4 +1,3 @@
-pub mod Sums
 pub mod Past
 pub mod Answers
 pub mod Runs

@@ -12,7 +12,7 @@ use Rattle.rules.specs.declared.money.Millions.{Millions}
 use Rattle.rules.specs.declared.money.Mils.{Mils}
 use Rattle.rules.specs.declared.quotas.Quota.{Quota}
 use Rattle.rules.specs.declared.kinds.Money.{Money}
-use Rattle.history.specs.Sums.{when, total}
+use Rattle.rules.specs.Sums.{when, total}
 
 -- an accepted fill, kept with its order
 pub record Filled : Type 0 where

@@ -22,9 +22,10 @@ use Rattle.rules.specs.Laws.{clear, order-rises, fill-rises, cancel-rises}
 use Rattle.rules.specs.declared.money.Mils.{Mils}
 use Rattle.rules.specs.declared.calls.Call.{Call}
 use Rattle.rules.specs.declared.calls.Call.the-variants.{Enrol, Attach, Detach, Regular, Raise, Withdraw, OwnQuota, Order, Fill, Cancel, Close}
-use Rattle.history.specs.Sums.{when, when-add, when-zero, total, total-append, total-set}
+use Rattle.rules.specs.Refusals.{unlessRefused}
+use Rattle.rules.specs.Sums.{when, when-add, when-zero, total, total-append, total-set}
 use Rattle.history.specs.Past.{Filled, Ordered, History, atOpening, noOrder, orderAt, filledMoney, openIn, boughtIn, soldIn, moneyOf, netIn}
-use Rattle.history.specs.Answers.{groupOf, unlessRefused, refusals, refusalOf, orderReads, placeReads}
+use Rattle.history.specs.Answers.{groupOf, refusals, refusalOf, orderReads, placeReads}
 use Rattle.history.specs.Runs.{ordered, filled, cancelled, accept, next, after}
 use Rattle.history.specs.Article16.{Parts, nothing, counted, net16, parts}
 

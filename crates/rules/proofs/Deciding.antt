@@ -8,20 +8,16 @@ use borrow.Author.Tests.{ne-eqb, le-leb, lt-leb, leb-true, leb-false, ltb-true, 
 use lib.Dec.{leb, ltb, eqb}
 use lib.IntN.{ℤ, pos, negsuc, subℕ}
 use lib.Signed.{ltZ}
-use Rattle.rules.specs.Tests.{within, true-within}
+use Rattle.rules.specs.Tests.{within, true-within, below-range, above-range}
 use Rattle.rules.specs.Limits.{isPrice}
-use Rattle.rules.specs.Orders.{isBuy, priceRule, worseFill, decidedBy, netOf, shanghai}
+use Rattle.rules.specs.Orders.{isBuy, priceRule, worseFill, decidedBy, netOf, shanghai, below-pos}
 use Rattle.rules.specs.declared.money.Mils.{Mils}
 use Rattle.rules.specs.declared.kinds.Decided.{Decided}
 use Rattle.rules.specs.declared.kinds.Money.{Money}
 
-and-false : (a : Bool) → (a && false) ≡ false
-and-false true = refl
-and-false false = refl
-
 outside : (low high x : ℕ) → (x < low) ⊎ (high < x) → within low high x ≡ false
-outside low high x (inl h) = rw (lt-leb low x h)
-outside low high x (inr h) = rw (lt-leb x high h) (and-false (leb low x))
+outside low high x (inl h) = below-range low high x h
+outside low high x (inr h) = above-range low high x h
 
 -- kinds 1 and 2
 pub plain-buy : (kind : ℕ) (price fill : Mils) → 1 ≤ kind → kind ≤ 3 → kind ≢ 3
@@ -44,18 +40,6 @@ no-kind kind price fill o four five six =
     other : (kind < 1) ⊎ (3 < kind) → kind ≢ 3
     other (inl h) = omega arith
     other (inr h) = omega arith
-
--- a signed difference is below c where the first is below c and the second
-below-pos : (a b c : ℕ) → ltZ (subℕ a b) (pos c) ≡ ltb a (c + b)
-below-pos a b c = go (ltb a b) refl
-  where
-    go : (t : Bool) → ltb a b ≡ t → ltZ (cond t (negsuc (b - suc a)) (pos (a - b))) (pos c) ≡ ltb a (c + b)
-    go true e = sym (lt-ltb a (c + b) (omega (arith, ltb-true a b e)))
-    go false e = go2 (ltb (a - b) c) refl
-      where
-        go2 : (u : Bool) → ltb (a - b) c ≡ u → ltb (a - b) c ≡ ltb a (c + b)
-        go2 true q = q ∙ sym (lt-ltb a (c + b) (omega (arith, ltb-true (a - b) c q, ltb-false a b e)))
-        go2 false q = q ∙ sym (le-ltb a (c + b) (omega (arith, ltb-false (a - b) c q, ltb-false a b e)))
 
 not-leb : (a b : ℕ) → not (leb a b) ≡ ltb b a
 not-leb a b = go (leb a b) refl

@@ -10,7 +10,7 @@ use borrow.Author.Tests.{ltb-true}
 use lib.Dec.{ltb}
 use Rattle.rules.specs.Tests.{pick, both}
 use Rattle.rules.specs.Orders.{Rule}
-use Rattle.rules.specs.Refusals.{refusal, OUT-OF-RANGE}
+use Rattle.rules.specs.Refusals.{refusal, unlessRefused}
 use Rattle.rules.specs.Lists.{enrolRules, attachRules, detachRules, regularRules, raiseRules, withdrawRules, ownQuotaRules, orderRules, fillRules, cancelRules, closeRules}
 use Rattle.rules.specs.declared.money.Millions.{Millions}
 use Rattle.rules.specs.declared.money.Mils.{Mils}
@@ -99,6 +99,16 @@ given n m rs r a none = go (refusal rs) refl
 -- a list that rises from 1 never gives 1
 pub never-one : (rs : List (ℕ × Bool)) → rising 1 rs ≡ true → refusal rs ≢ 1
 never-one rs r e = absurd (omega (arith, above 1 (refusal rs) rs r (applies rs (λ z. omega arith))))
+
+-- what follows on a refusal, and what on none
+module _ {A : Type 0} (a b : A) where
+  pub where-refused : (r : ℕ) → r ≢ 0 → unlessRefused r a b ≡ b
+  where-refused zero h = absurd (h refl)
+  where-refused (suc r) h = refl
+
+  pub where-accepted : (r : ℕ) → r ≡ 0 → unlessRefused r a b ≡ a
+  where-accepted zero e = refl
+  where-accepted (suc r) e = absurd (omega arith)
 
 -- the lists of the eleven calls
 

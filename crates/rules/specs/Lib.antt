@@ -1,5 +1,6 @@
 pub mod Tests
 pub mod Keyed
+pub mod Sums
 pub mod Limits
 pub mod Money
 pub mod Quotas

@@ -1,5 +1,5 @@
 -- "Refusal list": the numbers by name, and which of several is given.
-use Prim.Native.Nat.{ℕ}
+use Prim.Native.Nat.{ℕ, zero, suc}
 use mathlib.Core.Bool.{Bool}
 use mathlib.Core.List.{List, [], _∷_}
 use Rattle.rules.specs.Tests.{pick}
@@ -79,3 +79,9 @@ SHORT-BUFFER = 22
 abbrev pub refusal : List (ℕ × Bool) → ℕ
 refusal [] = 0
 refusal ((n, b) ∷ rs) = pick b n (refusal rs)
+
+-- what follows where nothing refuses, and what where something does
+module _ {A : Type 0} where
+  abbrev pub unlessRefused : ℕ → A → A → A
+  unlessRefused zero a b = a
+  unlessRefused (suc r) a b = b

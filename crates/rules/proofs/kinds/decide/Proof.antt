@@ -1,3 +1,4 @@
+-- `rules::kinds::decide` meets its contract. Assumes nothing.
 use native.Mathlib.Omega.{arith}
 use mathlib.Core.Logic.{_⊎_, inl, inr, ⊎-elim}
 use Rattle.rules.specs.Orders.{isBuy, priceRule, worseFill}
@@ -5,43 +6,31 @@ use Rattle.rules.proofs.Deciding.{no-kind}
 use borrow.Author.Needs.{needs}
 use Rattle.rules.proofs.kinds.decide.Statement.{statement}
 use Rattle.rules.proofs.kinds.decide.Tie as tie
-use Rattle.rules.proofs.kinds.decide.Reads as reads
-use Rattle.rules.proofs.kinds.decide.Lts as lts
-use Rattle.rules.proofs.kinds.decided_of_buy.Reads as decided-of-buy-reads
-use Rattle.rules.proofs.kinds.in_price_range.Reads as in-price-range-reads
 
--- src/kinds.rt:49:44
 in-price-range-requires : tie.Need-in-price-range-requires
 in-price-range-requires c κs = search needs
 
--- src/kinds.rt:48:18
 decided-of-buy-requires : tie.Need-decided-of-buy-requires
 decided-of-buy-requires c κs = search needs
 
--- src/kinds.rt:52:44
 in-price-range-requires-2 : tie.Need-in-price-range-requires-2
 in-price-range-requires-2 c κs = search needs
 
--- src/kinds.rt:44:1
 returns : tie.Need-returns
 unfolding isBuy priceRule worseFill
 returns c = rw (c .before .before .before .match .keys1, c .before .before .in-price-range .ensures)
 
--- src/kinds.rt:44:1
 returns-2 : tie.Need-returns-2
 unfolding isBuy priceRule worseFill
 returns-2 c = rw (c .before .match .keys2)
 
--- src/kinds.rt:44:1
 returns-3 : tie.Need-returns-3
 unfolding isBuy priceRule worseFill
 returns-3 c = rw (c .before .before .match .keys3)
 
--- src/kinds.rt:44:1
 returns-4 : tie.Need-returns-4
 returns-4 c = search needs
 
--- src/kinds.rt:44:1
 returns-5 : tie.Need-returns-5
 returns-5 c = rw (c .in-price-range2 .ensures) (no-kind (c .before .before .before .args .kind) (c .before .before .before .args .price) (c .before .before .before .args .fill) (⊎-elim (λ w. inl (omega arith)) (λ w. inr (omega arith)) (c .before .if1 .came)) (c .before .before .match .rest .0 .0 .1) (c .before .before .match .rest .0 .1) (c .before .before .match .rest .1))
 

@@ -1,22 +1,17 @@
+-- `rules::kinds::decided_of_buy` meets its contract. Assumes nothing.
 use Rattle.rules.specs.Orders.{isBuy, priceRule, worseFill}
 use Rattle.rules.proofs.Deciding.{plain-buy}
 use borrow.Author.Needs.{needs}
 use Rattle.rules.proofs.kinds.decided_of_buy.Statement.{statement}
 use Rattle.rules.proofs.kinds.decided_of_buy.Tie as tie
-use Rattle.rules.proofs.kinds.decided_of_buy.Reads as reads
-use Rattle.rules.proofs.kinds.decided_of_buy.Lts as lts
-use Rattle.rules.proofs.kinds.in_price_range.Reads as in-price-range-reads
 
--- src/kinds.rt:38:9
 returns : tie.Need-returns
 unfolding isBuy priceRule worseFill
 returns c = rw (c .before .before .if1 .taken)
 
--- src/kinds.rt:40:34
 in-price-range-requires : tie.Need-in-price-range-requires
 in-price-range-requires c κs = search needs
 
--- src/kinds.rt:33:1
 returns-2 : tie.Need-returns-2
 returns-2 c = rw (c .before .before .in-price-range .ensures) (plain-buy (c .before .before .before .before .args .kind) (c .before .before .before .before .args .price) (c .before .before .before .before .args .fill) (c .before .before .before .before .pre .0) (c .before .before .before .before .pre .1) (c .before .before .before .if1 .left))
 

@@ -1,34 +1,25 @@
+-- `rules::kinds::stops_buy` meets its contract. Assumes nothing.
 use Rattle.rules.specs.Orders.{stops}
 use borrow.Author.Needs.{needs}
 use Rattle.rules.proofs.kinds.stops_buy.Statement.{statement}
 use Rattle.rules.proofs.kinds.stops_buy.Tie as tie
-use Rattle.rules.proofs.kinds.stops_buy.Reads as reads
-use Rattle.rules.proofs.kinds.stops_buy.Lts as lts
-use Rattle.rules.proofs.kinds.accepts.Reads as accepts-reads
-use Rattle.rules.proofs.money.mils_of.Reads as mils-of-reads
 
--- src/kinds.rt:117:27
 enum-told : tie.Need-enum-told
 enum-told c = search needs
 
--- src/kinds.rt:118:19
 enum-known-own : tie.Need-enum-known-own
 enum-known-own c = search needs
 
--- src/kinds.rt:118:38
 mils-of-requires : tie.Need-mils-of-requires
 mils-of-requires c κs = search needs
 
--- src/kinds.rt:118:30
 accepts-requires : tie.Need-accepts-requires
 accepts-requires c κs = search needs
 
--- src/kinds.rt:113:1
 returns : tie.Need-returns
 unfolding stops
 returns c = λ amount. rw (c .enum-told .given .1)
 
--- src/kinds.rt:113:1
 returns-2 : tie.Need-returns-2
 unfolding stops
 returns-2 c = λ amount. rw (c .before .before .before .own .given .1, ← c .before .mils-of .ensures, c .accepts .ensures amount)

@@ -1,3 +1,4 @@
+-- `rules::kinds::sums_reach` meets its contract. Assumes nothing.
 use mathlib.Core.Path.{sym}
 use Prim.Native.Nat.{_+_, _-_}
 use native.Mathlib.Omega.{arith}
@@ -6,26 +7,19 @@ use Rattle.rules.proofs.Compare.{leb-same}
 use borrow.Author.Needs.{needs}
 use Rattle.rules.proofs.kinds.sums_reach.Statement.{statement}
 use Rattle.rules.proofs.kinds.sums_reach.Tie as tie
-use Rattle.rules.proofs.kinds.sums_reach.Reads as reads
-use Rattle.rules.proofs.kinds.sums_reach.Lts as lts
 
--- src/kinds.rt:89:21
 sub-short : tie.Need-sub-short
 sub-short c = search needs
 
--- src/kinds.rt:91:13
 returns : tie.Need-returns
 returns c = sym (lt-leb (c .before .before .args .c + c .before .before .args .d) (c .before .before .args .a + c .before .before .args .b) (omega arith))
 
--- src/kinds.rt:93:9
 returns-2 : tie.Need-returns-2
 returns-2 c = leb-same (c .before .before .args .d) (c .before .before .args .b - (c .before .before .args .c - c .before .before .args .a)) (c .before .before .args .c + c .before .before .args .d) (c .before .before .args .a + c .before .before .args .b) (λ h. omega arith) (λ h. omega arith)
 
--- src/kinds.rt:97:9
 returns-3 : tie.Need-returns-3
 returns-3 c = sym (le-leb (c .before .before .args .c + c .before .before .args .d) (c .before .before .args .a + c .before .before .args .b) (omega arith))
 
--- src/kinds.rt:85:1
 returns-4 : tie.Need-returns-4
 returns-4 c = leb-same (c .before .before .args .d - (c .before .before .args .a - c .before .before .args .c)) (c .before .before .args .b) (c .before .before .args .c + c .before .before .args .d) (c .before .before .args .a + c .before .before .args .b) (λ h. omega arith) (λ h. omega arith)
 

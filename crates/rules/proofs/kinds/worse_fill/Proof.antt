@@ -1,15 +1,11 @@
+-- `rules::kinds::worse_fill` meets its contract. Assumes nothing.
 use borrow.Author.Needs.{needs}
 use Rattle.rules.proofs.kinds.worse_fill.Statement.{statement}
 use Rattle.rules.proofs.kinds.worse_fill.Tie as tie
-use Rattle.rules.proofs.kinds.worse_fill.Reads as reads
-use Rattle.rules.proofs.kinds.worse_fill.Lts as lts
-use Rattle.rules.proofs.kinds.decide.Reads as decide-reads
 
--- src/kinds.rt:74:5
 decide-requires : tie.Need-decide-requires
 decide-requires c κs = search needs
 
--- src/kinds.rt:71:1
 returns : tie.Need-returns
 returns c = rw (c .decide .ensures)
 

@@ -1,30 +1,23 @@
+-- `rules::quotas::maximum_at_close` meets its contract. Assumes nothing.
 use borrow.Author.Needs.{needs}
 use Rattle.rules.proofs.quotas.maximum_at_close.Statement.{statement}
 use Rattle.rules.proofs.quotas.maximum_at_close.Tie as tie
-use Rattle.rules.proofs.quotas.maximum_at_close.Reads as reads
-use Rattle.rules.proofs.quotas.maximum_at_close.Lts as lts
 
--- src/quotas.rt:95:30
 enum-told : tie.Need-enum-told
 enum-told c = search needs
 
--- src/quotas.rt:96:40
 enum-known-emergency : tie.Need-enum-known-emergency
 enum-known-emergency c = search needs
 
--- src/quotas.rt:97:56
 enum-told-2 : tie.Need-enum-told-2
 enum-told-2 c = search needs
 
--- src/quotas.rt:91:1
 returns : tie.Need-returns
 returns c = search needs
 
--- src/quotas.rt:91:1
 returns-2 : tie.Need-returns-2
 returns-2 c = rw (c .before .emergency .given .1)
 
--- src/quotas.rt:91:1
 returns-3 : tie.Need-returns-3
 returns-3 c = search needs
 

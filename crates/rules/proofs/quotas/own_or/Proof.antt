@@ -1,22 +1,17 @@
+-- `rules::quotas::own_or` meets its contract. Assumes nothing.
 use borrow.Author.Needs.{needs}
 use Rattle.rules.proofs.quotas.own_or.Statement.{statement}
 use Rattle.rules.proofs.quotas.own_or.Tie as tie
-use Rattle.rules.proofs.quotas.own_or.Reads as reads
-use Rattle.rules.proofs.quotas.own_or.Lts as lts
 
--- src/quotas.rt:63:27
 enum-told : tie.Need-enum-told
 enum-told c = search needs
 
--- src/quotas.rt:64:19
 enum-known-own : tie.Need-enum-known-own
 enum-known-own c = search needs
 
--- src/quotas.rt:59:1
 returns : tie.Need-returns
 returns c = rw (c .enum-told .given .1)
 
--- src/quotas.rt:59:1
 returns-2 : tie.Need-returns-2
 returns-2 c = rw (c .before .own .given .1)
 

@@ -1,20 +1,15 @@
+-- `rules::quotas::regular_maximum` meets its contract. Assumes nothing.
 use Rattle.rules.proofs.Compare.{some-stand}
 use borrow.Author.Needs.{needs}
 use Rattle.rules.proofs.quotas.regular_maximum.Statement.{statement}
 use Rattle.rules.proofs.quotas.regular_maximum.Tie as tie
-use Rattle.rules.proofs.quotas.regular_maximum.Reads as reads
-use Rattle.rules.proofs.quotas.regular_maximum.Lts as lts
-use Rattle.rules.proofs.limits.smaller.Reads as smaller-reads
 
--- src/quotas.rt:85:9
 returns : tie.Need-returns
 returns c = search needs
 
--- src/quotas.rt:87:24
 smaller-requires : tie.Need-smaller-requires
 smaller-requires c κs = search needs
 
--- src/quotas.rt:81:1
 returns-2 : tie.Need-returns-2
 returns-2 c = rw (some-stand (c .before .before .args .standing) (c .before .before .args .sum) (c .before .if1 .left), c .smaller .ensures)
 

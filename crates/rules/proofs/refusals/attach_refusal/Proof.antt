@@ -1,28 +1,21 @@
+-- `rules::refusals::attach_refusal` meets its contract. Assumes nothing.
 use Rattle.rules.specs.Lists.{attachRules}
 use borrow.Author.Needs.{needs}
 use Rattle.rules.proofs.refusals.attach_refusal.Statement.{statement}
 use Rattle.rules.proofs.refusals.attach_refusal.Tie as tie
-use Rattle.rules.proofs.refusals.attach_refusal.Reads as reads
-use Rattle.rules.proofs.refusals.attach_refusal.Lts as lts
-use Rattle.rules.proofs.refusals.first.Reads as first-reads
 
--- src/refusals.rt:122:9
 first-requires : tie.Need-first-requires
 first-requires c κs = search needs
 
--- src/refusals.rt:123:9
 first-requires-2 : tie.Need-first-requires-2
 first-requires-2 c κs = search needs
 
--- src/refusals.rt:124:9
 first-requires-3 : tie.Need-first-requires-3
 first-requires-3 c κs = search needs
 
--- src/refusals.rt:125:5
 first-requires-4 : tie.Need-first-requires-4
 first-requires-4 c κs = search needs
 
--- src/refusals.rt:119:1
 returns : tie.Need-returns
 unfolding attachRules
 returns c = rw (c .first4 .ensures, c .before .first3 .ensures, c .before .before .first2 .ensures, c .before .before .before .first .ensures)

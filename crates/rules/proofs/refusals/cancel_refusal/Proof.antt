@@ -1,24 +1,18 @@
+-- `rules::refusals::cancel_refusal` meets its contract. Assumes nothing.
 use Rattle.rules.specs.Lists.{cancelRules}
 use borrow.Author.Needs.{needs}
 use Rattle.rules.proofs.refusals.cancel_refusal.Statement.{statement}
 use Rattle.rules.proofs.refusals.cancel_refusal.Tie as tie
-use Rattle.rules.proofs.refusals.cancel_refusal.Reads as reads
-use Rattle.rules.proofs.refusals.cancel_refusal.Lts as lts
-use Rattle.rules.proofs.refusals.first.Reads as first-reads
 
--- src/refusals.rt:279:9
 first-requires : tie.Need-first-requires
 first-requires c κs = search needs
 
--- src/refusals.rt:280:9
 first-requires-2 : tie.Need-first-requires-2
 first-requires-2 c κs = search needs
 
--- src/refusals.rt:281:5
 first-requires-3 : tie.Need-first-requires-3
 first-requires-3 c κs = search needs
 
--- src/refusals.rt:276:1
 returns : tie.Need-returns
 unfolding cancelRules
 returns c = rw (c .first3 .ensures, c .before .first2 .ensures, c .before .before .before .first .ensures)

@@ -1,28 +1,21 @@
+-- `rules::refusals::enrol_refusal` meets its contract. Assumes nothing.
 use Rattle.rules.specs.Lists.{enrolRules}
 use borrow.Author.Needs.{needs}
 use Rattle.rules.proofs.refusals.enrol_refusal.Statement.{statement}
 use Rattle.rules.proofs.refusals.enrol_refusal.Tie as tie
-use Rattle.rules.proofs.refusals.enrol_refusal.Reads as reads
-use Rattle.rules.proofs.refusals.enrol_refusal.Lts as lts
-use Rattle.rules.proofs.refusals.first.Reads as first-reads
 
--- src/refusals.rt:112:9
 first-requires : tie.Need-first-requires
 first-requires c κs = search needs
 
--- src/refusals.rt:113:9
 first-requires-2 : tie.Need-first-requires-2
 first-requires-2 c κs = search needs
 
--- src/refusals.rt:114:9
 first-requires-3 : tie.Need-first-requires-3
 first-requires-3 c κs = search needs
 
--- src/refusals.rt:115:5
 first-requires-4 : tie.Need-first-requires-4
 first-requires-4 c κs = search needs
 
--- src/refusals.rt:109:1
 returns : tie.Need-returns
 unfolding enrolRules
 returns c = rw (c .first4 .ensures, c .before .first3 .ensures, c .before .before .first2 .ensures, c .before .before .before .first .ensures)

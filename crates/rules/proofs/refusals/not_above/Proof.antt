@@ -1,22 +1,17 @@
+-- `rules::refusals::not_above` meets its contract. Assumes nothing.
 use borrow.Author.Needs.{needs}
 use Rattle.rules.proofs.refusals.not_above.Statement.{statement}
 use Rattle.rules.proofs.refusals.not_above.Tie as tie
-use Rattle.rules.proofs.refusals.not_above.Reads as reads
-use Rattle.rules.proofs.refusals.not_above.Lts as lts
 
--- src/refusals.rt:170:27
 enum-told : tie.Need-enum-told
 enum-told c = search needs
 
--- src/refusals.rt:171:19
 enum-known-maximum : tie.Need-enum-known-maximum
 enum-known-maximum c = search needs
 
--- src/refusals.rt:166:1
 returns : tie.Need-returns
 returns c = search needs
 
--- src/refusals.rt:166:1
 returns-2 : tie.Need-returns-2
 returns-2 c = rw (c .before .before .before .maximum .given .1)
 

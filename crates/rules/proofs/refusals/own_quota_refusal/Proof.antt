@@ -1,38 +1,27 @@
+-- `rules::refusals::own_quota_refusal` meets its contract. Assumes nothing.
 use Rattle.rules.specs.Lists.{ownQuotaRules}
 use borrow.Author.Needs.{needs}
 use Rattle.rules.proofs.refusals.own_quota_refusal.Statement.{statement}
 use Rattle.rules.proofs.refusals.own_quota_refusal.Tie as tie
-use Rattle.rules.proofs.refusals.own_quota_refusal.Reads as reads
-use Rattle.rules.proofs.refusals.own_quota_refusal.Lts as lts
-use Rattle.rules.proofs.refusals.first.Reads as first-reads
-use Rattle.rules.proofs.refusals.is_above.Reads as is-above-reads
-use Rattle.rules.proofs.refusals.is_none.Reads as is-none-reads
 
--- src/refusals.rt:237:19
 is-none-requires : tie.Need-is-none-requires
 is-none-requires c κs = search needs
 
--- src/refusals.rt:237:9
 first-requires : tie.Need-first-requires
 first-requires c κs = search needs
 
--- src/refusals.rt:238:19
 is-above-requires : tie.Need-is-above-requires
 is-above-requires c κs = search needs
 
--- src/refusals.rt:238:9
 first-requires-2 : tie.Need-first-requires-2
 first-requires-2 c κs = search needs
 
--- src/refusals.rt:239:9
 first-requires-3 : tie.Need-first-requires-3
 first-requires-3 c κs = search needs
 
--- src/refusals.rt:240:5
 first-requires-4 : tie.Need-first-requires-4
 first-requires-4 c κs = search needs
 
--- src/refusals.rt:232:1
 returns : tie.Need-returns
 unfolding ownQuotaRules
 returns c = rw (c .first4 .ensures, c .before .before .first3 .ensures, c .before .before .before .before .first2 .ensures, c .before .before .before .before .before .is-above .ensures, c .before .before .before .before .before .before .first .ensures, c .before .before .before .before .before .before .before .is-none .ensures)

@@ -1,56 +1,39 @@
+-- `rules::refusals::raise_refusal` meets its contract. Assumes nothing.
 use Rattle.rules.specs.Lists.{raiseRules}
 use borrow.Author.Needs.{needs}
 use Rattle.rules.proofs.refusals.raise_refusal.Statement.{statement}
 use Rattle.rules.proofs.refusals.raise_refusal.Tie as tie
-use Rattle.rules.proofs.refusals.raise_refusal.Reads as reads
-use Rattle.rules.proofs.refusals.raise_refusal.Lts as lts
-use Rattle.rules.proofs.quotas.flag_due.Reads as flag-due-reads
-use Rattle.rules.proofs.refusals.first.Reads as first-reads
-use Rattle.rules.proofs.refusals.held_by_another.Reads as held-by-another-reads
-use Rattle.rules.proofs.refusals.is_foreign.Reads as is-foreign-reads
-use Rattle.rules.proofs.refusals.not_above.Reads as not-above-reads
 
--- src/refusals.rt:182:29
 flag-due-requires : tie.Need-flag-due-requires
 flag-due-requires c κs = search needs
 
--- src/refusals.rt:182:9
 first-requires : tie.Need-first-requires
 first-requires c κs = search needs
 
--- src/refusals.rt:183:19
 not-above-requires : tie.Need-not-above-requires
 not-above-requires c κs = search needs
 
--- src/refusals.rt:183:9
 first-requires-2 : tie.Need-first-requires-2
 first-requires-2 c κs = search needs
 
--- src/refusals.rt:184:19
 held-by-another-requires : tie.Need-held-by-another-requires
 held-by-another-requires c κs = search needs
 
--- src/refusals.rt:184:9
 first-requires-3 : tie.Need-first-requires-3
 first-requires-3 c κs = search needs
 
--- src/refusals.rt:185:19
 is-foreign-requires : tie.Need-is-foreign-requires
 is-foreign-requires c κs = search needs
 
--- src/refusals.rt:185:9
 first-requires-4 : tie.Need-first-requires-4
 first-requires-4 c κs = search needs
 
--- src/refusals.rt:186:9
 first-requires-5 : tie.Need-first-requires-5
 first-requires-5 c κs = search needs
 
--- src/refusals.rt:187:5
 first-requires-6 : tie.Need-first-requires-6
 first-requires-6 c κs = search needs
 
--- src/refusals.rt:176:1
 returns : tie.Need-returns
 unfolding raiseRules
 returns c = rw (c .first6 .ensures, c .before .before .before .first5 .ensures, c .before .before .before .before .before .first4 .ensures, c .before .before .before .before .before .before .is-foreign .ensures, c .before .before .before .before .before .before .before .first3 .ensures, c .before .before .before .before .before .before .before .before .held-by-another .ensures, c .before .before .before .before .before .before .before .before .before .first2 .ensures, c .before .before .before .before .before .before .before .before .before .before .not-above .ensures, c .before .before .before .before .before .before .before .before .before .before .before .first .ensures, c .before .before .before .before .before .before .before .before .before .before .before .before .flag-due .ensures)

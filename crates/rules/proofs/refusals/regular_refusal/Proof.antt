@@ -1,46 +1,33 @@
+-- `rules::refusals::regular_refusal` meets its contract. Assumes nothing.
 use Rattle.rules.specs.Lists.{regularRules}
 use borrow.Author.Needs.{needs}
 use Rattle.rules.proofs.refusals.regular_refusal.Statement.{statement}
 use Rattle.rules.proofs.refusals.regular_refusal.Tie as tie
-use Rattle.rules.proofs.refusals.regular_refusal.Reads as reads
-use Rattle.rules.proofs.refusals.regular_refusal.Lts as lts
-use Rattle.rules.proofs.quotas.quota_due.Reads as quota-due-reads
-use Rattle.rules.proofs.refusals.first.Reads as first-reads
-use Rattle.rules.proofs.refusals.is_foreign.Reads as is-foreign-reads
 
--- src/refusals.rt:147:9
 quota-due-requires : tie.Need-quota-due-requires
 quota-due-requires c κs = search needs
 
--- src/refusals.rt:148:9
 first-requires : tie.Need-first-requires
 first-requires c κs = search needs
 
--- src/refusals.rt:149:9
 first-requires-2 : tie.Need-first-requires-2
 first-requires-2 c κs = search needs
 
--- src/refusals.rt:150:9
 first-requires-3 : tie.Need-first-requires-3
 first-requires-3 c κs = search needs
 
--- src/refusals.rt:151:19
 is-foreign-requires : tie.Need-is-foreign-requires
 is-foreign-requires c κs = search needs
 
--- src/refusals.rt:151:9
 first-requires-4 : tie.Need-first-requires-4
 first-requires-4 c κs = search needs
 
--- src/refusals.rt:152:9
 first-requires-5 : tie.Need-first-requires-5
 first-requires-5 c κs = search needs
 
--- src/refusals.rt:153:5
 first-requires-6 : tie.Need-first-requires-6
 first-requires-6 c κs = search needs
 
--- src/refusals.rt:144:1
 returns : tie.Need-returns
 unfolding regularRules
 returns c = rw (c .first6 .ensures, c .before .before .before .first5 .ensures, c .before .before .before .before .before .first4 .ensures, c .before .before .before .before .before .before .is-foreign .ensures, c .before .before .before .before .before .before .before .first3 .ensures, c .before .before .before .before .before .before .before .before .before .before .first2 .ensures, c .before .before .before .before .before .before .before .before .before .before .before .before .before .first .ensures, c .before .before .before .before .before .before .before .before .before .before .before .before .before .before .before .before .quota-due .ensures)

@@ -1,47 +1,33 @@
+-- `rules::refusals::withdraw_refusal` meets its contract. Assumes nothing.
 use Rattle.rules.specs.Lists.{withdrawRules}
 use borrow.Author.Needs.{needs}
 use Rattle.rules.proofs.refusals.withdraw_refusal.Statement.{statement}
 use Rattle.rules.proofs.refusals.withdraw_refusal.Tie as tie
-use Rattle.rules.proofs.refusals.withdraw_refusal.Reads as reads
-use Rattle.rules.proofs.refusals.withdraw_refusal.Lts as lts
-use Rattle.rules.proofs.refusals.first.Reads as first-reads
-use Rattle.rules.proofs.refusals.held_by_another.Reads as held-by-another-reads
-use Rattle.rules.proofs.refusals.is_foreign.Reads as is-foreign-reads
-use Rattle.rules.proofs.refusals.nothing_to_withdraw.Reads as nothing-to-withdraw-reads
 
--- src/refusals.rt:206:19
 held-by-another-requires : tie.Need-held-by-another-requires
 held-by-another-requires c κs = search needs
 
--- src/refusals.rt:206:9
 first-requires : tie.Need-first-requires
 first-requires c κs = search needs
 
--- src/refusals.rt:207:19
 nothing-to-withdraw-requires : tie.Need-nothing-to-withdraw-requires
 nothing-to-withdraw-requires c κs = search needs
 
--- src/refusals.rt:207:9
 first-requires-2 : tie.Need-first-requires-2
 first-requires-2 c κs = search needs
 
--- src/refusals.rt:208:19
 is-foreign-requires : tie.Need-is-foreign-requires
 is-foreign-requires c κs = search needs
 
--- src/refusals.rt:208:9
 first-requires-3 : tie.Need-first-requires-3
 first-requires-3 c κs = search needs
 
--- src/refusals.rt:209:9
 first-requires-4 : tie.Need-first-requires-4
 first-requires-4 c κs = search needs
 
--- src/refusals.rt:210:5
 first-requires-5 : tie.Need-first-requires-5
 first-requires-5 c κs = search needs
 
--- src/refusals.rt:201:1
 returns : tie.Need-returns
 unfolding withdrawRules
 returns c = rw (c .first5 .ensures, c .before .first4 .ensures, c .before .before .before .first3 .ensures, c .before .before .before .before .is-foreign .ensures, c .before .before .before .before .before .first2 .ensures, c .before .before .before .before .before .before .nothing-to-withdraw .ensures, c .before .before .before .before .before .before .before .first .ensures, c .before .before .before .before .before .before .before .before .held-by-another .ensures)
