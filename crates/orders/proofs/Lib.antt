@@ -1,0 +1,5 @@
+pub mod Amounts
+pub mod Parts
+pub mod Shape
+pub mod Needed
+pub mod Done

@@ -1,0 +1,29 @@
+-- `orders::refusals::listed_of_order` meets its contract. Assumes nothing.
+use borrow.Author.Needs.{needs}
+use Rattle.orders.proofs.refusals.listed_of_order.Statement.{statement}
+use Rattle.orders.proofs.refusals.listed_of_order.Tie as tie
+
+reads-of-order-requires : tie.Need-reads-of-order-requires
+reads-of-order-requires c κs = search needs
+
+order-refusal-requires : tie.Need-order-refusal-requires
+order-refusal-requires c κs = search needs
+
+host-ok-requires : tie.Need-host-ok-requires
+host-ok-requires c κs = search needs
+
+first-requires : tie.Need-first-requires
+first-requires c κs = search needs
+
+returns : tie.Need-returns
+returns c = rw (c .first .ensures, c .before .host-ok .ensures, c .before .before .order-refusal .ensures, c .before .before .before .reads-of-order .ensures)
+
+pub listed-of-order-spec : {M : Type 1} → statement M
+listed-of-order-spec =
+    tie.close
+    (tie.spec
+    reads-of-order-requires
+    order-refusal-requires
+    host-ok-requires
+    first-requires
+    returns)

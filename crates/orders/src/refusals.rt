@@ -1,0 +1,98 @@
+// Each call's refusal: 1 for the host's memory, the call's list, then 1 for money that would leave 0 to L.
+ghost use mathlib.Core.Path.{_≡_};
+ghost use Rattle.rules.specs.Orders.{shanghai};
+ghost use Rattle.orders.specs.Calls.{orderReads, placeReads, orderListed, fillListed, cancelListed};
+use crate::host::host_ok;
+use crate::host::named_ok;
+use book::places::place_at;
+use book::totals::accepted_of;
+use book::totals::money_at;
+use book::totals::places_of;
+use quota::asks::group_of_unit;
+use quota::asks::is_attached;
+use quota::asks::own_in_force_of;
+use rules::money::Mils;
+use rules::refusals::OrderReads;
+use rules::refusals::PlaceReads;
+use rules::refusals::UNSOUND;
+use rules::refusals::cancel_refusal;
+use rules::refusals::fill_refusal;
+use rules::refusals::first;
+use rules::refusals::order_refusal;
+
+fn reads_of_order(register: &[u64], book: &[u64], unit: u64) -> OrderReads
+    ensures { λ r. ⌜ r ≡ orderReads (now (register .entry)) (now (book .entry)) unit ⌝ }
+{
+    let group = group_of_unit(register, unit);
+    let attached = is_attached(register, unit);
+    let own = own_in_force_of(register, group);
+    let money = money_at(book, group);
+    let full = places_of(book) <= accepted_of(book);
+    OrderReads {
+        attached: attached,
+        own: own,
+        money: money,
+        full: full,
+    }
+}
+
+fn reads_of_place(book: &[u64], places: &[u64], order: u64) -> PlaceReads
+    ensures { λ r. ⌜ r ≡ placeReads (now (book .entry)) (now (places .entry)) order ⌝ }
+{
+    let place = place_at(places, order);
+    let price = place.price;
+    let given = (1 <= order) & (order <= accepted_of(book));
+    PlaceReads {
+        given: given,
+        kind: place.kind,
+        price: price,
+        open: place.open,
+    }
+}
+
+// Call 8: the host's 1 and the list.
+pub fn listed_of_order(
+    register: &[u64],
+    book: &[u64],
+    places: &[u64],
+    unit: u64,
+    kind: u64,
+    price: Mils,
+    quantity: u64,
+) -> u64
+    ensures { λ r. ⌜ r ≡ orderListed shanghai (now (register .entry)) (now (book .entry)) (now (places .entry)) unit kind price quantity ⌝ }
+{
+    let r = order_refusal(
+        unit,
+        kind,
+        price,
+        quantity,
+        reads_of_order(register, book, unit),
+    );
+    first(!host_ok(register, book, places), UNSOUND, r)
+}
+
+// Call 9: the host's 1 and the list.
+pub fn listed_of_fill(
+    register: &[u64],
+    book: &[u64],
+    places: &[u64],
+    order: u64,
+    price: Mils,
+    quantity: u64,
+) -> u64
+    ensures { λ r. ⌜ r ≡ fillListed (now (register .entry)) (now (book .entry)) (now (places .entry)) order price quantity ⌝ }
+{
+    let r = fill_refusal(order, price, quantity, reads_of_place(book, places, order));
+    let ok = host_ok(register, book, places) & named_ok(register, book, places, order);
+    first(!ok, UNSOUND, r)
+}
+
+// Call 10: the host's 1 and the list.
+pub fn listed_of_cancel(register: &[u64], book: &[u64], places: &[u64], order: u64) -> u64
+    ensures { λ r. ⌜ r ≡ cancelListed (now (register .entry)) (now (book .entry)) (now (places .entry)) order ⌝ }
+{
+    let r = cancel_refusal(order, reads_of_place(book, places, order));
+    let ok = host_ok(register, book, places) & named_ok(register, book, places, order);
+    first(!ok, UNSOUND, r)
+}
