@@ -1,0 +1,4 @@
+pub mod Guarded
+pub mod Opened
+pub mod Rowed
+pub mod Ran

@@ -1,0 +1,13 @@
+pub mod Step
+pub mod Opening
+pub mod Demand
+pub mod Row
+pub mod Runs
+pub mod Relation
+pub mod QuotaViews
+pub mod QuotaSim
+pub mod OrderSums
+pub mod OrderSim
+pub mod Theorem
+pub mod Edges
+pub mod Corollaries
