@@ -1,4 +1,2 @@
 pub mod Guarded
 pub mod Opened
-pub mod Rowed
-pub mod Ran

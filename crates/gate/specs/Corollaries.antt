@@ -1,7 +1,7 @@
 -- What follows from the third demand. Assumes nothing.
 use Prim.{tt}
 use Prim.Native.Nat.{ℕ, zero, suc, _<_}
-use mathlib.Core.Path.{_≡_, sym, subst, ap, _∙_}
+use mathlib.Core.Path.{_≡_, sym, subst, _∙_}
 use mathlib.Core.Logic.{_≢_}
 use mathlib.Core.List.{List, [], _∷_}
 use native.Mathlib.Omega.{arith}
@@ -22,8 +22,6 @@ use Rattle.book.specs.Layout.{moneyAt}
 use Rattle.gate.specs.Opening.{placesLent, openRefusal}
 use Rattle.gate.specs.Demand.{run, answersOf, opened}
 use Rattle.gate.specs.Theorem.{demand}
-use Rattle.gate.specs.Runs.{callsOf, answerWords, runRefusal, runMemory, runAnswers}
-use Rattle.rules.specs.Laws.{where-accepted}
 use Rattle.gate.specs.Edges.{All}
 
 -- an answer whose number is not 1
@@ -51,18 +49,3 @@ net-by-article-16 rs bs ps o cs g l =
     let d = demand rs bs ps o cs .either-market in
     let i : g < length ((after (placesLent ps) shanghai atOpening cs) .groups) = omega (arith, l, d .same-groups) in
     d .rows g i .net ∙ sym (article-16 (placesLent ps) shanghai g cs)
-
--- What `gate::runs::run` leaves after an opening, by its contract and the third demand: in the room for the answers, word for word, the
--- history's answers to the calls that the words say.
-pub run-answers-as-history : (rs bs ps ws out : List ℕ) → openRefusal rs bs ps ≡ 0 → runRefusal ws out ≡ 0
-    → runAnswers (opened rs bs ps) ws out ≡ answerWords (answers (placesLent ps) shanghai atOpening (callsOf ws))
-unfolding runAnswers
-run-answers-as-history rs bs ps ws out o r =
-    where-accepted (answerWords (answersOf shanghai (opened rs bs ps) (callsOf ws))) out (runRefusal ws out) r
-    ∙ ap answerWords (demand rs bs ps o (callsOf ws) .either-market .same-answers)
-
--- and the memory is the one of which the third demand speaks, rows, buys and crossing included
-pub run-memory-as-claimed : (rs bs ps ws out : List ℕ) → runRefusal ws out ≡ 0
-    → runMemory (opened rs bs ps) ws out ≡ run shanghai (opened rs bs ps) (callsOf ws)
-unfolding runMemory
-run-memory-as-claimed rs bs ps ws out r = where-accepted (run shanghai (opened rs bs ps) (callsOf ws)) (opened rs bs ps) (runRefusal ws out) r

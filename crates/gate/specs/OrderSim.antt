@@ -21,8 +21,8 @@ use Rattle.rules.specs.declared.money.Millions.{Millions}
 use Rattle.rules.specs.declared.money.Mils.{Mils}
 use Rattle.rules.specs.declared.kinds.Money.{Money}
 use Rattle.rules.specs.declared.calls.Call.the-variants.{Enrol, Attach, Detach, Regular, Raise, Withdraw, OwnQuota, Order, Fill, Cancel, Close}
-use Rattle.rules.specs.declared.refusals.OrderReads.{OrderReads}
-use Rattle.rules.specs.declared.refusals.PlaceReads.{PlaceReads}
+use Rattle.rules.specs.declared.trading.OrderReads.{OrderReads}
+use Rattle.rules.specs.declared.trading.PlaceReads.{PlaceReads}
 use Rattle.words.specs.Each.{same}
 use Rattle.history.specs.Past.{Filled, Ordered, History, atOpening, noOrder, groupAt, orderAt, filledMoney, moneyOf}
 use Rattle.history.specs.Answers as past

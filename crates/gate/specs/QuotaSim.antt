@@ -20,8 +20,8 @@ use Rattle.rules.specs.Sums.{total}
 use Rattle.rules.specs.declared.quotas.Emergency.{Emergency}
 use Rattle.rules.specs.declared.quotas.Emergency.the-variants.{Nobody, Held, Filed}
 use Rattle.rules.specs.declared.calls.Call.the-variants.{Enrol, Attach, Detach, Regular, Raise, Withdraw, OwnQuota, Order, Fill, Cancel, Close}
-use Rattle.rules.specs.declared.refusals.GroupReads.{GroupReads}
-use Rattle.rules.specs.declared.refusals.FigureReads.{FigureReads}
+use Rattle.rules.specs.declared.declaring.GroupReads.{GroupReads}
+use Rattle.rules.specs.declared.declaring.FigureReads.{FigureReads}
 use Rattle.history.specs.Past as past
 use Rattle.history.specs.Past.{History, atOpening, noGroup}
 use Rattle.history.specs.Answers as answers

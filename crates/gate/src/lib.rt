@@ -2,5 +2,3 @@
 pub mod opening; // a fresh gate in a lent register and book
 pub mod guard; // calls 1 to 7 and the close, refused by 1 where the book is not sound
 pub mod calls; // one function over all eleven calls
-pub mod row; // the row of a group, as a listing has it
-pub mod runs; // a lent list of calls, run in order

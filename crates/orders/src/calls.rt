@@ -1,7 +1,8 @@
 // Calls 8 to 10. A refused call answers its number and leaves book and places as they were, word for word.
 ghost use mathlib.Core.Path.{_≡_};
 ghost use Rattle.rules.specs.Orders.{shanghai};
-ghost use Rattle.orders.specs.Calls.{answered, orderRefusal, orderAnswer, orderBook, orderPlaces, fillRefusal, fillBook, fillPlaces, cancelRefusal, cancelBook, cancelPlaces};
+ghost use Rattle.rules.specs.Refusals.{answered};
+ghost use Rattle.orders.specs.Calls.{orderRefusal, orderAnswer, orderBook, orderPlaces, fillRefusal, fillBook, fillPlaces, cancelRefusal, cancelBook, cancelPlaces};
 use crate::booking::booked_cancel;
 use crate::booking::booked_fill;
 use crate::booking::booked_order;

@@ -15,10 +15,10 @@ use Rattle.rules.specs.Tests.{pick, within, both, within-true}
 use Rattle.rules.specs.Keyed.{find, put, without, isThere}
 use Rattle.rules.specs.Limits.{isCode, isUnit, isDeclarer, isGroup, isClass, isQuota, topQuota}
 use Rattle.rules.specs.Money.{millions}
-use Rattle.rules.specs.Quotas.{quotaDue, regularMaximum, maximumAtClose, emergencyAtClose, ownAtClose, closedQuota}
+use Rattle.rules.specs.Quotas.{isNone, quotaDue, regularMaximum, maximumAtClose, emergencyAtClose, ownAtClose, closedQuota}
 use Rattle.rules.specs.Calls.{inRange}
 use Rattle.rules.specs.Refusals.{refusal, unlessRefused}
-use Rattle.rules.specs.Lists.{notAbove, isAbove, isNone, enrolRules, attachRules, detachRules, regularRules, raiseRules, withdrawRules, ownQuotaRules, closeRules}
+use Rattle.rules.specs.Lists.{notAbove, isAbove, enrolRules, attachRules, detachRules, regularRules, raiseRules, withdrawRules, ownQuotaRules, closeRules}
 use Rattle.rules.specs.Laws.{clear, enrol-rises, attach-rises, detach-rises, regular-rises, raise-rises, withdraw-rises, own-quota-rises, where-refused, where-accepted}
 use Rattle.rules.specs.declared.money.Millions.{Millions}
 use Rattle.rules.specs.declared.quotas.Limit.{Limit}

@@ -13,8 +13,8 @@ use lib.Seq.{getD-at, getD-set-same, getD-set-other}
 use Rattle.rules.specs.Tests.{pick}
 use Rattle.rules.specs.Keyed.{put, without}
 use Rattle.rules.specs.Money.{millions}
-use Rattle.rules.specs.Quotas.{quotaDue, ownUnder, inForce, regularMaximum, maximumAtClose, emergencyAtClose, ownAtClose, closedQuota}
-use Rattle.rules.specs.Lists.{notAbove, isAbove, isNone}
+use Rattle.rules.specs.Quotas.{isNone, quotaDue, ownUnder, inForce, regularMaximum, maximumAtClose, emergencyAtClose, ownAtClose, closedQuota}
+use Rattle.rules.specs.Lists.{notAbove, isAbove}
 use Rattle.rules.specs.declared.money.Millions.{Millions}
 use Rattle.rules.specs.declared.quotas.Limit.{Limit}
 use Rattle.rules.specs.declared.quotas.Limit.the-variants.{Nothing, At}

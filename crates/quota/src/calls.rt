@@ -1,6 +1,7 @@
 // Calls 1 to 7. A refused call answers its number and leaves the register as it was, word for word.
 ghost use mathlib.Core.Path.{_≡_};
-ghost use Rattle.quota.specs.Calls.{answered, enrolAnswer, enrolAfter, attachRefusal, attachAfter, detachRefusal, detachAfter, regularRefusal, regularAfter, raiseRefusal, raiseAfter, withdrawRefusal, withdrawAfter, ownQuotaRefusal, ownQuotaAfter};
+ghost use Rattle.rules.specs.Refusals.{answered};
+ghost use Rattle.quota.specs.Calls.{enrolAnswer, enrolAfter, attachRefusal, attachAfter, detachRefusal, detachAfter, regularRefusal, regularAfter, raiseRefusal, raiseAfter, withdrawRefusal, withdrawAfter, ownQuotaRefusal, ownQuotaAfter};
 use crate::groups::declared_group;
 use crate::groups::filed_group;
 use crate::groups::fresh_group;

@@ -10,22 +10,22 @@ use register::groups::group_count;
 use register::groups::is_taken;
 use register::units::is_attached;
 use register::units::unit_count;
+use rules::declaring::AttachReads;
+use rules::declaring::EnrolReads;
+use rules::declaring::FigureReads;
+use rules::declaring::GroupReads;
+use rules::declaring::attach_refusal;
+use rules::declaring::detach_refusal;
+use rules::declaring::enrol_refusal;
+use rules::declaring::own_quota_refusal;
+use rules::declaring::raise_refusal;
+use rules::declaring::regular_refusal;
+use rules::declaring::withdraw_refusal;
 use rules::limits::MOST_GROUPS;
 use rules::limits::MOST_UNITS;
 use rules::money::Millions;
-use rules::refusals::AttachReads;
-use rules::refusals::EnrolReads;
-use rules::refusals::FigureReads;
-use rules::refusals::GroupReads;
 use rules::refusals::UNSOUND;
-use rules::refusals::attach_refusal;
-use rules::refusals::detach_refusal;
-use rules::refusals::enrol_refusal;
 use rules::refusals::first;
-use rules::refusals::own_quota_refusal;
-use rules::refusals::raise_refusal;
-use rules::refusals::regular_refusal;
-use rules::refusals::withdraw_refusal;
 
 fn reads_of_enrol(register: &[u64], code: u64, class: u64) -> EnrolReads
     ensures { λ r. ⌜ r ≡ enrolReads (now (register .entry)) code class ⌝ }

@@ -6,6 +6,7 @@ pub mod Money
 pub mod Quotas
 pub mod Orders
 pub mod Calls
+pub mod Codes
 pub mod Refusals
 pub mod Lists
 pub mod Laws

@@ -5,4 +5,7 @@ pub mod money; // quotas in millions of yuan, amounts in mils, and their one con
 pub mod quotas; // a group's maximum, own quota and emergency; what follows from a base; the close
 pub mod kinds; // the six kinds of orders; when a buy is accepted
 pub mod calls; // the eleven calls and the answer
-pub mod refusals; // the refusal numbers by name, and each call's refusal over what the call reads
+pub mod codes; // the calls by their codes, 1 to 11
+pub mod refusals; // the refusal numbers by name
+pub mod declaring; // the refusals of calls 1 to 7, over what each reads
+pub mod trading; // the refusals of calls 8 to 10, over what each reads

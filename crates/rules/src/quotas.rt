@@ -1,6 +1,6 @@
 // "Quotas": what follows from a base, the own quota in force, and the close's rule.
 ghost use mathlib.Core.Path.{_≡_};
-ghost use Rattle.rules.specs.Quotas.{quotaDue, freshQuota, inForce, ownQuota, regularMaximum, maximumAtClose, emergencyAtClose, ownAtClose, closedQuota, flagDue};
+ghost use Rattle.rules.specs.Quotas.{quotaDue, freshQuota, inForce, ownQuota, regularMaximum, maximumAtClose, emergencyAtClose, ownAtClose, closedQuota, flagDue, isNone};
 use crate::limits::PROPRIETARY;
 use crate::limits::TOP_QUOTA;
 use crate::limits::smaller;
@@ -39,6 +39,16 @@ impl Quota {
             own: Limit::Nothing,
             emergency: Emergency::Nobody,
         }
+    }
+}
+
+// A maximum of none, or no own quota in force.
+pub fn is_none(limit: Limit) -> bool
+    ensures { λ r. ⌜ r ≡ isNone limit ⌝ }
+{
+    match limit {
+        Limit::Nothing => true,
+        Limit::At(_) => false,
     }
 }
 

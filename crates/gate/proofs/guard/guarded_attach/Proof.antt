@@ -1,6 +1,7 @@
 -- `gate::guard::guarded_attach` meets its contract. Assumes nothing.
 use denote.Ref.{now}
-use Rattle.quota.specs.Calls.{answered, attachRefusal, attachAfter}
+use Rattle.rules.specs.Refusals.{answered}
+use Rattle.quota.specs.Calls.{attachRefusal, attachAfter}
 use Rattle.gate.proofs.Guarded.{on-register-refused, on-register-called}
 use borrow.Author.Needs.{needs}
 use Rattle.gate.proofs.guard.guarded_attach.Statement.{statement}

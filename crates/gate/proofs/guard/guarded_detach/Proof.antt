@@ -1,6 +1,7 @@
 -- `gate::guard::guarded_detach` meets its contract. Assumes nothing.
 use denote.Ref.{now}
-use Rattle.quota.specs.Calls.{answered, detachRefusal, detachAfter}
+use Rattle.rules.specs.Refusals.{answered}
+use Rattle.quota.specs.Calls.{detachRefusal, detachAfter}
 use Rattle.gate.proofs.Guarded.{on-register-refused, on-register-called}
 use borrow.Author.Needs.{needs}
 use Rattle.gate.proofs.guard.guarded_detach.Statement.{statement}

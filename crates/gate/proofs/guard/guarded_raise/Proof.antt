@@ -1,6 +1,7 @@
 -- `gate::guard::guarded_raise` meets its contract. Assumes nothing.
 use denote.Ref.{now}
-use Rattle.quota.specs.Calls.{answered, raiseRefusal, raiseAfter}
+use Rattle.rules.specs.Refusals.{answered}
+use Rattle.quota.specs.Calls.{raiseRefusal, raiseAfter}
 use Rattle.gate.proofs.Guarded.{on-register-refused, on-register-called}
 use borrow.Author.Needs.{needs}
 use Rattle.gate.proofs.guard.guarded_raise.Statement.{statement}

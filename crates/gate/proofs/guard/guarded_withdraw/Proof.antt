@@ -1,6 +1,7 @@
 -- `gate::guard::guarded_withdraw` meets its contract. Assumes nothing.
 use denote.Ref.{now}
-use Rattle.quota.specs.Calls.{answered, withdrawRefusal, withdrawAfter}
+use Rattle.rules.specs.Refusals.{answered}
+use Rattle.quota.specs.Calls.{withdrawRefusal, withdrawAfter}
 use Rattle.gate.proofs.Guarded.{on-register-refused, on-register-called}
 use borrow.Author.Needs.{needs}
 use Rattle.gate.proofs.guard.guarded_withdraw.Statement.{statement}

@@ -1,0 +1,76 @@
+-- The row of a group: sums that do not wrap, and the three ways in which a row is refused or shown. Assumes nothing.
+use Prim.Native.Nat.{ℕ, zero, suc, _+_, _-_, _≤_, _<_}
+use mathlib.Core.Path.{_≡_, refl, sym, ap, _∙_}
+use mathlib.Core.Bool.{Bool, true, false, not, _&&_}
+use mathlib.Core.List.{List}
+use native.Mathlib.Omega.{arith}
+use borrow.Author.Tests.{not-true, not-false, leb-true, lt-ltb, le-ltb}
+use lib.Dec.{leb, ltb}
+use Rattle.rules.specs.Limits.{topCode, topMoney}
+use Rattle.rules.specs.Money.{mils}
+use Rattle.rules.specs.Refusals.{UNSOUND, unlessRefused}
+use Rattle.rules.specs.declared.kinds.Money.{Money}
+use Rattle.rules.specs.declared.quotas.Limit.{Limit}
+use Rattle.register.specs.declared.groups.Group.{Group}
+use Rattle.register.specs.Layout.{groupAt}
+use Rattle.quota.specs.Asks.{ownInForce}
+use Rattle.book.specs.Layout.{moneyAt}
+use Rattle.orders.specs.Booking.{moneyFits}
+use Rattle.rows.specs.declared.Net.{Net}
+use Rattle.rows.specs.declared.RowRead.{RowRead}
+use Rattle.rows.specs.Row.{signedNet, classKept, limitsKept, rowObeys, refusedRow, madeRow, shownRow, rowRefusal, rowOf}
+
+pub fits-known : (m : Money) → moneyFits m ≡ true → m .«open» .0 + m .bought .0 + m .sold .0 ≤ topMoney
+unfolding moneyFits
+fits-known m e = leb-true (m .«open» .0 + m .bought .0 + m .sold .0) topMoney e
+
+pub net-below : (m : Money) → m .«open» .0 + m .bought .0 < m .sold .0 → record { below = true; size = mils (m .sold .0 - (m .«open» .0 + m .bought .0)) } ≡ signedNet m
+unfolding signedNet
+net-below m h = rw (lt-ltb (m .«open» .0 + m .bought .0) (m .sold .0) h)
+
+pub net-above : (m : Money) → m .sold .0 ≤ m .«open» .0 + m .bought .0 → record { below = false; size = mils (m .«open» .0 + m .bought .0 - m .sold .0) } ≡ signedNet m
+unfolding signedNet
+net-above m h = rw (le-ltb (m .«open» .0 + m .bought .0) (m .sold .0) h)
+
+module _ (code class : ℕ) (maximum own : Limit) (money : Money) (a b : Bool) (p : a ≡ classKept class) (q : b ≡ limitsKept maximum own) (r : RowRead) where
+  kept : (leb code topCode && (a && b)) ≡ (leb code topCode && (classKept class && limitsKept maximum own))
+  kept = ap (λ (x : Bool). leb code topCode && (x && b)) p ∙ ap (λ (y : Bool). leb code topCode && (classKept class && y)) q
+
+  pub shown-broken : not (leb code topCode && (a && b)) ≡ true → r ≡ refusedRow UNSOUND → r ≡ shownRow code class maximum own money
+  unfolding shownRow rowObeys
+  shown-broken h e =
+      let f : (leb code topCode && (classKept class && limitsKept maximum own)) ≡ false = sym kept ∙ not-true (leb code topCode && (a && b)) h in
+      rw f e
+
+  pub shown-wide : (w : Bool) → not (leb code topCode && (a && b)) ≡ false → w ≡ moneyFits money → not w ≡ true → r ≡ refusedRow UNSOUND → r ≡ shownRow code class maximum own money
+  unfolding shownRow rowObeys
+  shown-wide w h x n e =
+      let f : (leb code topCode && (classKept class && limitsKept maximum own)) ≡ true = sym kept ∙ not-false (leb code topCode && (a && b)) h in
+      let g : moneyFits money ≡ false = sym x ∙ not-true w n in
+      rw (f, g) e
+
+  pub shown-made : (w : Bool) → not (leb code topCode && (a && b)) ≡ false → w ≡ moneyFits money → not w ≡ false → r ≡ madeRow code class maximum own money → r ≡ shownRow code class maximum own money
+  unfolding shownRow rowObeys
+  shown-made w h x n e =
+      let f : (leb code topCode && (classKept class && limitsKept maximum own)) ≡ true = sym kept ∙ not-false (leb code topCode && (a && b)) h in
+      let g : moneyFits money ≡ true = sym x ∙ not-false w n in
+      rw (f, g) e
+
+module _ (rs bs ps : List ℕ) (group q : ℕ) (r : RowRead) (e : q ≡ rowRefusal rs bs ps group) where
+  pub row-refused : (q ≡ 0 → ⊥) → r ≡ refusedRow q → r ≡ rowOf rs bs ps group
+  unfolding rowOf
+  row-refused n p = go (rowRefusal rs bs ps group) refl
+    where
+      go : (x : ℕ) → rowRefusal rs bs ps group ≡ x
+          → r ≡ unlessRefused (rowRefusal rs bs ps group) (shownRow ((groupAt rs group) .code) ((groupAt rs group) .class) ((groupAt rs group) .quota .maximum) (ownInForce rs group) (moneyAt bs group)) (refusedRow (rowRefusal rs bs ps group))
+      go zero f = absurd (n (e ∙ f))
+      go (suc x) f = rw f (p ∙ ap refusedRow (e ∙ f))
+
+  pub row-shown : (agreed : Group) (own : Limit) (money : Money) → q ≡ 0 → agreed ≡ groupAt rs group → own ≡ ownInForce rs group → money ≡ moneyAt bs group
+      → r ≡ shownRow (agreed .code) (agreed .class) (agreed .quota .maximum) own money → r ≡ rowOf rs bs ps group
+  unfolding rowOf
+  row-shown agreed own money z a o m p =
+      let f : rowRefusal rs bs ps group ≡ 0 = sym e ∙ z in
+      rw f (p ∙ ap (λ (g : Group). shownRow (g .code) (g .class) (g .quota .maximum) own money) a
+      ∙ ap (λ (x : Limit). shownRow ((groupAt rs group) .code) ((groupAt rs group) .class) ((groupAt rs group) .quota .maximum) x money) o
+      ∙ ap (λ (x : Money). shownRow ((groupAt rs group) .code) ((groupAt rs group) .class) ((groupAt rs group) .quota .maximum) (ownInForce rs group) x) m)

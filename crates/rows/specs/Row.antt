@@ -1,0 +1,111 @@
+-- The row of a group: what a listing has of it, "code, class, maximum, own quota, net, open buys, bought, sold", and when there is none.
+use Prim.Native.Nat.{ℕ, suc, _+_, _-_, _≤_}
+use mathlib.Core.Path.{_≡_, refl, ap}
+use mathlib.Core.Bool.{Bool, true, false, not, cond, _&&_, false≢true}
+use mathlib.Core.List.{List, [], _∷_}
+use native.Mathlib.Omega.{arith}
+use borrow.Author.Tests.{ltb-true}
+use lib.Dec.{leb, ltb, eqb}
+use lib.IntN.{ℤ, pos, negsuc}
+use Rattle.rules.specs.Tests.{pick, within}
+use Rattle.rules.specs.Limits.{isCode, isClass, isGroup, brokerage, topQuota}
+use Rattle.rules.specs.Money.{mils}
+use Rattle.rules.specs.Quotas.{isNone}
+use Rattle.rules.specs.Orders.{netOf}
+use Rattle.rules.specs.Refusals.{UNSOUND, OUT-OF-RANGE, NOT-THERE, refusal, unlessRefused}
+use Rattle.rules.specs.declared.money.Millions.{Millions}
+use Rattle.rules.specs.declared.kinds.Money.{Money}
+use Rattle.rules.specs.declared.quotas.Limit.{Limit}
+use Rattle.rules.specs.declared.quotas.Limit.the-variants.{Nothing, At}
+use Rattle.register.specs.Layout.{groupAt}
+use Rattle.quota.specs.Asks.{isEnrolled, ownInForce}
+use Rattle.book.specs.Layout.{noMoney, moneyAt}
+use Rattle.orders.specs.Host.{hostOk}
+use Rattle.orders.specs.Booking.{moneyFits}
+use Rattle.rows.specs.declared.Net.{Net}
+use Rattle.rows.specs.declared.Row.{Row}
+use Rattle.rows.specs.declared.RowRead.{RowRead}
+
+-- "net = open + bought − sold", as sign and size: below 0 where more is sold
+unfoldable pub signedNet : Money → Net
+signedNet m =
+    pick (ltb (m .«open» .0 + m .bought .0) (m .sold .0))
+    (record { below = true; size = mils (m .sold .0 - (m .«open» .0 + m .bought .0)) })
+    (record { below = false; size = mils (m .«open» .0 + m .bought .0 - m .sold .0) })
+
+-- "class 1, 3 or 4"
+abbrev pub classKept : ℕ → Bool
+classKept class = isClass class && not (eqb class brokerage)
+
+-- "own quota at most maximum"; no own quota is missing where there is a maximum
+abbrev pub atMost : Limit → Millions → Bool
+atMost Nothing maximum = false
+atMost (At own) maximum = leb (own .0) (maximum .0)
+
+-- "maximum 1 or more"; ""-" stands for a maximum of none, and then for own quota"
+abbrev pub limitsKept : Limit → Limit → Bool
+limitsKept Nothing own = isNone own
+limitsKept (At maximum) own = within 1 topQuota (maximum .0) && atMost own maximum
+
+-- "A row obeys: each field in its range; class 1, 3 or 4; maximum 1 or more; own quota at most maximum; open + bought + sold at most L"
+unfoldable pub rowObeys : ℕ → ℕ → Limit → Limit → Money → Bool
+rowObeys code class maximum own money = (isCode code && (classKept class && limitsKept maximum own)) && moneyFits money
+
+-- no row, and a refused read
+abbrev pub noRow : Row
+noRow = record { code = 0; class = 0; maximum = Nothing; own = Nothing; money = noMoney; below = false; net = mils 0 }
+
+abbrev pub refusedRow : ℕ → RowRead
+refusedRow n = record { refusal = n; row = noRow }
+
+abbrev pub madeRow : ℕ → ℕ → Limit → Limit → Money → RowRead
+madeRow code class maximum own money = record {
+  refusal = 0;
+  row = record { code = code; class = class; maximum = maximum; own = own; money = money; below = (signedNet money) .below; net = (signedNet money) .size };
+}
+
+-- the row of these figures; refused by 1 where it would break its rules
+unfoldable pub shownRow : ℕ → ℕ → Limit → Limit → Money → RowRead
+shownRow code class maximum own money =
+    pick (rowObeys code class maximum own money)
+    (madeRow code class maximum own money)
+    (refusedRow UNSOUND)
+
+-- the list: the host's memory, the group's number, its enrolment
+unfoldable pub rowRefusal : List ℕ → List ℕ → List ℕ → ℕ → ℕ
+rowRefusal rs bs ps group =
+    refusal ((UNSOUND, not (hostOk rs bs ps)) ∷ (OUT-OF-RANGE, not (isGroup group)) ∷ (NOT-THERE, not (isEnrolled rs group)) ∷ [])
+
+unfoldable pub rowOf : List ℕ → List ℕ → List ℕ → ℕ → RowRead
+rowOf rs bs ps group =
+    unlessRefused (rowRefusal rs bs ps group)
+    (shownRow ((groupAt rs group) .code) ((groupAt rs group) .class) ((groupAt rs group) .quota .maximum) (ownInForce rs group) (moneyAt bs group))
+    (refusedRow (rowRefusal rs bs ps group))
+
+-- laws
+
+-- sign and size are the signed net
+abbrev pub signed : Net → ℤ
+signed n = cond (n .below) (negsuc (n .size .0 - 1)) (pos (n .size .0))
+
+pub net-is : (m : Money) → netOf m ≡ signed (signedNet m)
+unfolding netOf signedNet
+net-is m = go (ltb (m .«open» .0 + m .bought .0) (m .sold .0))
+  where
+    go : (t : Bool) → cond t (negsuc (m .sold .0 - suc (m .«open» .0 + m .bought .0))) (pos (m .«open» .0 + m .bought .0 - m .sold .0))
+        ≡ signed (pick {A = Net} t (record { below = true; size = mils (m .sold .0 - (m .«open» .0 + m .bought .0)) }) (record { below = false; size = mils (m .«open» .0 + m .bought .0 - m .sold .0) }))
+    go true =
+        let e : m .sold .0 - suc (m .«open» .0 + m .bought .0) ≡ m .sold .0 - (m .«open» .0 + m .bought .0) - 1 = omega arith in
+        ap negsuc e
+    go false = refl
+
+-- "no "-0"": a net below 0 has a size
+pub below-sized : (m : Money) → (signedNet m) .below ≡ true → 1 ≤ (signedNet m) .size .0
+unfolding signedNet
+below-sized m b = go (ltb (m .«open» .0 + m .bought .0) (m .sold .0)) refl b
+  where
+    go : (t : Bool) → ltb (m .«open» .0 + m .bought .0) (m .sold .0) ≡ t
+        → (pick {A = Net} t (record { below = true; size = mils (m .sold .0 - (m .«open» .0 + m .bought .0)) }) (record { below = false; size = mils (m .«open» .0 + m .bought .0 - m .sold .0) })) .below ≡ true
+        → 1 ≤ (pick {A = Net} t (record { below = true; size = mils (m .sold .0 - (m .«open» .0 + m .bought .0)) }) (record { below = false; size = mils (m .«open» .0 + m .bought .0 - m .sold .0) })) .size .0
+    go true e k = omega (arith, ltb-true (m .«open» .0 + m .bought .0) (m .sold .0) e)
+    go false e k = absurd (false≢true k)
