@@ -6,8 +6,10 @@ ghost use lib.ListN.{length};
 ghost use Rattle.rules.specs.Orders.{shanghai};
 ghost use Rattle.words.specs.Words.{stored};
 ghost use Rattle.gate.specs.Step.{memory, step};
+ghost use Rattle.runs.specs.FromOpening.{FromOpening};
 ghost use Rattle.runs.specs.Runs.{callAt, runRefusal, runMemory, runAnswers};
 use gate::calls::call;
+use gate::opening::open;
 use rules::calls::Call;
 use rules::codes::call_of;
 use rules::refusals::UNSOUND;
@@ -83,4 +85,26 @@ pub fn run(
         i += 1;
     }
     0
+}
+
+// A fresh gate, and every call in order: the third demand is this function's contract.
+pub fn run_from_opening(
+    register: &mut [u64],
+    book: &mut [u64],
+    places: &mut [u64],
+    calls: &[u64],
+    answers: &mut [u64],
+) -> u64
+    ensures { λ r. ⌜ FromOpening (now (register .entry)) (now (book .entry)) (now (places .entry)) (now (calls .entry)) (now (answers .entry)) r
+        (memory (now (register .exit)) (now (book .exit)) (now (places .exit))) (now (answers .exit)) ⌝ }
+{
+    let unfit = refusal_of_run(calls, answers);
+    if unfit != 0 {
+        return unfit;
+    }
+    let unopened = open(register, book, places);
+    if unopened != 0 {
+        return unopened;
+    }
+    run(register, book, places, calls, answers)
 }

@@ -1,0 +1,65 @@
+-- A run from the opening: refused for its lengths, refused for its opening, or run. Assumes nothing.
+use Prim.Native.Nat.{ℕ, zero, suc}
+use mathlib.Core.Path.{_≡_, refl, sym, ap, _∙_}
+use mathlib.Core.Logic.{_≢_}
+use mathlib.Core.List.{List}
+use Rattle.rules.specs.Orders.{shanghai}
+use Rattle.rules.specs.Refusals.{unlessRefused}
+use Rattle.rules.specs.Laws.{where-refused, where-accepted}
+use Rattle.history.specs.Past.{atOpening}
+use Rattle.history.specs.Runs.{answers}
+use Rattle.gate.specs.Step.{Memory, memory}
+use Rattle.gate.specs.Opening.{placesLent, openRefusal, freshRegister, freshBook, openRegister, openBook}
+use Rattle.gate.specs.Demand.{run, opened}
+use Rattle.gate.specs.Theorem.{demand}
+use Rattle.runs.specs.Runs.{callsOf, answerWords, runRefusal, runMemory, runAnswers}
+use Rattle.runs.specs.FromOpening.{startRefusal, FromOpening}
+use Rattle.runs.specs.Corollaries.{run-answers-as-history, run-memory-as-claimed}
+
+module _ (rs bs ps ws out : List ℕ) where
+  -- refused: nothing is changed
+  kept : (r : ℕ) → r ≡ startRefusal rs bs ps ws out → (r ≡ 0 → ⊥) → FromOpening rs bs ps ws out r (memory rs bs ps) out
+  kept r e n = record {
+    refusal = e;
+    memory-is = sym (where-refused (run shanghai (opened rs bs ps) (callsOf ws)) (memory rs bs ps) (startRefusal rs bs ps ws out) (λ z. n (e ∙ z)));
+    answers-are = sym (where-refused (answerWords (answers (placesLent ps) shanghai atOpening (callsOf ws))) out (startRefusal rs bs ps ws out) (λ z. n (e ∙ z)));
+    demanded = λ z. absurd (n z);
+  }
+
+  start-refused : runRefusal ws out ≢ 0 → startRefusal rs bs ps ws out ≡ runRefusal ws out
+  unfolding startRefusal
+  start-refused n = where-refused (openRefusal rs bs ps) (runRefusal ws out) (runRefusal ws out) n
+
+  start-open : runRefusal ws out ≡ 0 → startRefusal rs bs ps ws out ≡ openRefusal rs bs ps
+  unfolding startRefusal
+  start-open z = where-accepted (openRefusal rs bs ps) (runRefusal ws out) (runRefusal ws out) z
+
+  pub wrong-lengths : (r : ℕ) → r ≡ runRefusal ws out → (r ≡ 0 → ⊥) → FromOpening rs bs ps ws out r (memory rs bs ps) out
+  wrong-lengths r e n = kept r (e ∙ sym (start-refused (λ z. n (e ∙ z)))) n
+
+  module _ (q : ℕ) (eq : q ≡ runRefusal ws out) (z : q ≡ 0) (r : ℕ) (er : r ≡ openRefusal rs bs ps) (xs ys : List ℕ) (ex : xs ≡ openRegister rs bs ps) (ey : ys ≡ openBook rs bs ps) where
+    begun : startRefusal rs bs ps ws out ≡ openRefusal rs bs ps
+    begun = start-open (sym eq ∙ z)
+
+    pub not-opened : (r ≡ 0 → ⊥) → FromOpening rs bs ps ws out r (memory xs ys ps) out
+    unfolding openRegister openBook
+    not-opened n =
+        let x : xs ≡ rs = ex ∙ where-refused freshRegister rs (openRefusal rs bs ps) (λ w. n (er ∙ w)) in
+        let y : ys ≡ bs = ey ∙ where-refused (freshBook (placesLent ps)) bs (openRefusal rs bs ps) (λ w. n (er ∙ w)) in
+        rw (x, y) (kept r (er ∙ sym begun) n)
+
+    pub ran : (s : ℕ) (m : Memory) (room : List ℕ) → r ≡ 0 → s ≡ runRefusal ws out → m ≡ runMemory (memory xs ys ps) ws out → room ≡ runAnswers (memory xs ys ps) ws out
+        → FromOpening rs bs ps ws out s m room
+    ran s m room w es em eo =
+        let o : openRefusal rs bs ps ≡ 0 = sym er ∙ w in
+        let k : runRefusal ws out ≡ 0 = sym eq ∙ z in
+        let f : memory xs ys ps ≡ opened rs bs ps = rw (ex, ey) refl in
+        let st : startRefusal rs bs ps ws out ≡ 0 = begun ∙ o in
+        record {
+          refusal = es ∙ k ∙ sym st;
+          memory-is = em ∙ ap (λ (x : Memory). runMemory x ws out) f ∙ run-memory-as-claimed rs bs ps ws out k ∙ sym (where-accepted (run shanghai (opened rs bs ps) (callsOf ws)) (memory rs bs ps) (startRefusal rs bs ps ws out) st);
+          answers-are =
+              eo ∙ ap (λ (x : Memory). runAnswers x ws out) f ∙ run-answers-as-history rs bs ps ws out o k
+              ∙ sym (where-accepted (answerWords (answers (placesLent ps) shanghai atOpening (callsOf ws))) out (startRefusal rs bs ps ws out) st);
+          demanded = λ t. demand rs bs ps o (callsOf ws);
+        }

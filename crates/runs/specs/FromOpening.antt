@@ -1,0 +1,25 @@
+-- A lent list of calls run from the opening: what is left of the lent memory and of the room for the answers, and that the third demand
+-- holds of it. The answers are the history's, word for word.
+use Prim.Native.Nat.{ℕ}
+use mathlib.Core.Path.{_≡_}
+use mathlib.Core.List.{List}
+use Rattle.rules.specs.Orders.{shanghai}
+use Rattle.rules.specs.Refusals.{unlessRefused}
+use Rattle.history.specs.Past.{atOpening}
+use Rattle.history.specs.Runs.{answers}
+use Rattle.gate.specs.Step.{Memory, memory}
+use Rattle.gate.specs.Opening.{placesLent, openRefusal}
+use Rattle.gate.specs.Demand.{run, opened, Demand}
+use Rattle.runs.specs.Runs.{callsOf, answerWords, runRefusal}
+
+-- 1 where the words are not five a call or the room is not two a call, or where the opening is refused
+unfoldable pub startRefusal : List ℕ → List ℕ → List ℕ → List ℕ → List ℕ → ℕ
+startRefusal rs bs ps ws out = unlessRefused (runRefusal ws out) (openRefusal rs bs ps) (runRefusal ws out)
+
+-- r is the answer, m the memory and room the answers' words that are left of rs, bs, ps and out
+pub record FromOpening (rs bs ps ws out : List ℕ) (r : ℕ) (m : Memory) (room : List ℕ) : Type 0 where
+  pub refusal : r ≡ startRefusal rs bs ps ws out
+  pub memory-is : m ≡ unlessRefused (startRefusal rs bs ps ws out) (run shanghai (opened rs bs ps) (callsOf ws)) (memory rs bs ps)
+  pub answers-are : room ≡ unlessRefused (startRefusal rs bs ps ws out) (answerWords (answers (placesLent ps) shanghai atOpening (callsOf ws))) out
+  -- the third demand, of this list from this opening
+  pub demanded : r ≡ 0 → Demand (placesLent ps) (opened rs bs ps) (callsOf ws)
