@@ -6,6 +6,7 @@ use mathlib.Core.List.{List}
 use native.Mathlib.Omega.{arith}
 use borrow.Author.Tests.{not-true, not-false, leb-true, lt-ltb, le-ltb}
 use lib.Dec.{leb, ltb}
+use Rattle.rules.specs.Tests.{both}
 use Rattle.rules.specs.Limits.{topCode, topMoney}
 use Rattle.rules.specs.Money.{mils}
 use Rattle.rules.specs.Refusals.{UNSOUND, unlessRefused}
@@ -17,8 +18,9 @@ use Rattle.quota.specs.Asks.{ownInForce}
 use Rattle.book.specs.Layout.{moneyAt}
 use Rattle.orders.specs.Booking.{moneyFits}
 use Rattle.rows.specs.declared.Net.{Net}
+use Rattle.rows.specs.declared.Row.{Row}
 use Rattle.rows.specs.declared.RowRead.{RowRead}
-use Rattle.rows.specs.Row.{signedNet, classKept, limitsKept, rowObeys, refusedRow, madeRow, shownRow, rowRefusal, rowOf}
+use Rattle.rows.specs.Row.{signedNet, classKept, limitsKept, rowObeys, netKept, rowKept, refusedRow, madeRow, shownRow, rowRefusal, rowOf}
 
 pub fits-known : (m : Money) → moneyFits m ≡ true → m .«open» .0 + m .bought .0 + m .sold .0 ≤ topMoney
 unfolding moneyFits
@@ -32,29 +34,27 @@ pub net-above : (m : Money) → m .sold .0 ≤ m .«open» .0 + m .bought .0 →
 unfolding signedNet
 net-above m h = rw (le-ltb (m .«open» .0 + m .bought .0) (m .sold .0) h)
 
-module _ (code class : ℕ) (maximum own : Limit) (money : Money) (a b : Bool) (p : a ≡ classKept class) (q : b ≡ limitsKept maximum own) (r : RowRead) where
-  kept : (leb code topCode && (a && b)) ≡ (leb code topCode && (classKept class && limitsKept maximum own))
-  kept = ap (λ (x : Bool). leb code topCode && (x && b)) p ∙ ap (λ (y : Bool). leb code topCode && (classKept class && y)) q
+pub obeyed-fits : (code class : ℕ) (maximum own : Limit) (money : Money) → rowObeys code class maximum own money ≡ true → moneyFits money ≡ true
+unfolding rowObeys
+obeyed-fits code class maximum own money e = both (leb code topCode && (classKept class && limitsKept maximum own)) (moneyFits money) e .1
 
-  pub shown-broken : not (leb code topCode && (a && b)) ≡ true → r ≡ refusedRow UNSOUND → r ≡ shownRow code class maximum own money
-  unfolding shownRow rowObeys
-  shown-broken h e =
-      let f : (leb code topCode && (classKept class && limitsKept maximum own)) ≡ false = sym kept ∙ not-true (leb code topCode && (a && b)) h in
-      rw f e
+module _ (code class : ℕ) (maximum own : Limit) (money : Money) (r : RowRead) (k : Bool) (p : k ≡ rowObeys code class maximum own money) where
+  pub shown-broken : not k ≡ true → r ≡ refusedRow UNSOUND → r ≡ shownRow code class maximum own money
+  unfolding shownRow
+  shown-broken h e = rw (sym p ∙ not-true k h) e
 
-  pub shown-wide : (w : Bool) → not (leb code topCode && (a && b)) ≡ false → w ≡ moneyFits money → not w ≡ true → r ≡ refusedRow UNSOUND → r ≡ shownRow code class maximum own money
-  unfolding shownRow rowObeys
-  shown-wide w h x n e =
-      let f : (leb code topCode && (classKept class && limitsKept maximum own)) ≡ true = sym kept ∙ not-false (leb code topCode && (a && b)) h in
-      let g : moneyFits money ≡ false = sym x ∙ not-true w n in
-      rw (f, g) e
+  pub shown-made : not k ≡ false → r ≡ madeRow code class maximum own money → r ≡ shownRow code class maximum own money
+  unfolding shownRow
+  shown-made h e = rw (sym p ∙ not-false k h) e
 
-  pub shown-made : (w : Bool) → not (leb code topCode && (a && b)) ≡ false → w ≡ moneyFits money → not w ≡ false → r ≡ madeRow code class maximum own money → r ≡ shownRow code class maximum own money
-  unfolding shownRow rowObeys
-  shown-made w h x n e =
-      let f : (leb code topCode && (classKept class && limitsKept maximum own)) ≡ true = sym kept ∙ not-false (leb code topCode && (a && b)) h in
-      let g : moneyFits money ≡ true = sym x ∙ not-false w n in
-      rw (f, g) e
+module _ (r : Row) (k : Bool) (p : k ≡ rowObeys (r .code) (r .class) (r .maximum) (r .own) (r .money)) where
+  pub kept-broken : not k ≡ true → false ≡ rowKept r
+  unfolding rowKept
+  kept-broken h = rw (sym p ∙ not-true k h)
+
+  pub kept-net : (n : Bool) → not k ≡ false → n ≡ netKept (r .below) (r .net .0) (signedNet (r .money)) → n ≡ rowKept r
+  unfolding rowKept
+  kept-net n h e = rw (sym p ∙ not-false k h) e
 
 module _ (rs bs ps : List ℕ) (group q : ℕ) (r : RowRead) (e : q ≡ rowRefusal rs bs ps group) where
   pub row-refused : (q ≡ 0 → ⊥) → r ≡ refusedRow q → r ≡ rowOf rs bs ps group

@@ -1,10 +1,10 @@
 -- The row of a group: what a listing has of it, "code, class, maximum, own quota, net, open buys, bought, sold", and when there is none.
-use Prim.Native.Nat.{ℕ, suc, _+_, _-_, _≤_}
+use Prim.Native.Nat.{ℕ, zero, suc, _+_, _-_, _≤_}
 use mathlib.Core.Path.{_≡_, refl, ap}
 use mathlib.Core.Bool.{Bool, true, false, not, cond, _&&_, false≢true}
 use mathlib.Core.List.{List, [], _∷_}
 use native.Mathlib.Omega.{arith}
-use borrow.Author.Tests.{ltb-true}
+use borrow.Author.Tests.{ltb-true, eq-eqb}
 use lib.Dec.{leb, ltb, eqb}
 use lib.IntN.{ℤ, pos, negsuc}
 use Rattle.rules.specs.Tests.{pick, within}
@@ -50,6 +50,19 @@ limitsKept (At maximum) own = within 1 topQuota (maximum .0) && atMost own maxim
 -- "A row obeys: each field in its range; class 1, 3 or 4; maximum 1 or more; own quota at most maximum; open + bought + sold at most L"
 unfoldable pub rowObeys : ℕ → ℕ → Limit → Limit → Money → Bool
 rowObeys code class maximum own money = (isCode code && (classKept class && limitsKept maximum own)) && moneyFits money
+
+-- two signs are the same
+abbrev pub agree : Bool → Bool → Bool
+agree true b = b
+agree false b = not b
+
+-- "net = open + bought − sold"
+abbrev pub netKept : Bool → ℕ → Net → Bool
+netKept below size net = agree below (net .below) && eqb size (net .size .0)
+
+-- the rules of a whole row
+unfoldable pub rowKept : Row → Bool
+rowKept r = rowObeys (r .code) (r .class) (r .maximum) (r .own) (r .money) && netKept (r .below) (r .net .0) (signedNet (r .money))
 
 -- no row, and a refused read
 abbrev pub noRow : Row
@@ -109,3 +122,28 @@ below-sized m b = go (ltb (m .«open» .0 + m .bought .0) (m .sold .0)) refl b
         → 1 ≤ (pick {A = Net} t (record { below = true; size = mils (m .sold .0 - (m .«open» .0 + m .bought .0)) }) (record { below = false; size = mils (m .«open» .0 + m .bought .0 - m .sold .0) })) .size .0
     go true e k = omega (arith, ltb-true (m .«open» .0 + m .bought .0) (m .sold .0) e)
     go false e k = absurd (false≢true k)
+
+agree-refl : (b : Bool) → agree b b ≡ true
+agree-refl true = refl
+agree-refl false = refl
+
+-- a row that is handed out keeps its rules
+pub shown-kept : (code class : ℕ) (maximum own : Limit) (money : Money) → (shownRow code class maximum own money) .refusal ≡ 0 → rowKept ((shownRow code class maximum own money) .row) ≡ true
+unfolding shownRow rowKept
+shown-kept code class maximum own money z = go (rowObeys code class maximum own money) refl z
+  where
+    go : (b : Bool) → rowObeys code class maximum own money ≡ b → (pick b (madeRow code class maximum own money) (refusedRow UNSOUND)) .refusal ≡ 0
+        → rowKept ((pick b (madeRow code class maximum own money) (refusedRow UNSOUND)) .row) ≡ true
+    go true e k = rw (e, agree-refl ((signedNet money) .below), eq-eqb ((signedNet money) .size .0) ((signedNet money) .size .0) refl)
+    go false e k = absurd (omega (arith, k))
+
+pub row-of-kept : (rs bs ps : List ℕ) (group : ℕ) → (rowOf rs bs ps group) .refusal ≡ 0 → rowKept ((rowOf rs bs ps group) .row) ≡ true
+unfolding rowOf
+row-of-kept rs bs ps group z = go (rowRefusal rs bs ps group) z
+  where
+    shown : RowRead
+    shown = shownRow ((groupAt rs group) .code) ((groupAt rs group) .class) ((groupAt rs group) .quota .maximum) (ownInForce rs group) (moneyAt bs group)
+
+    go : (q : ℕ) → (unlessRefused q shown (refusedRow q)) .refusal ≡ 0 → rowKept ((unlessRefused q shown (refusedRow q)) .row) ≡ true
+    go zero k = shown-kept ((groupAt rs group) .code) ((groupAt rs group) .class) ((groupAt rs group) .quota .maximum) (ownInForce rs group) (moneyAt bs group) k
+    go (suc q) k = absurd (omega (arith, k))

@@ -3,7 +3,7 @@
 ghost use mathlib.Core.Path.{_≡_};
 ghost use mathlib.Core.Bool.{true};
 ghost use Rattle.orders.specs.Booking.{moneyFits};
-ghost use Rattle.rows.specs.Row.{signedNet, madeRow, classKept, atMost, limitsKept, refusedRow, shownRow, rowRefusal, rowOf};
+ghost use Rattle.rows.specs.Row.{signedNet, madeRow, classKept, atMost, limitsKept, rowObeys, agree as agreeOf, netKept, rowKept, refusedRow, shownRow, rowRefusal, rowOf};
 use book::totals::money_at;
 use orders::booking::money_fits;
 use orders::host::host_ok;
@@ -96,6 +96,43 @@ fn limits_kept(maximum: Limit, own: Limit) -> bool
     }
 }
 
+// Every rule of a row but that of its net.
+fn row_obeys(code: u64, class: u64, maximum: Limit, own: Limit, money: Money) -> bool
+    ensures { λ r. ⌜ r ≡ rowObeys code class maximum own money ⌝ }
+{
+    ((code <= TOP_CODE) & (class_kept(class) & limits_kept(maximum, own))) & money_fits(money)
+}
+
+fn agree(a: bool, b: bool) -> bool
+    ensures { λ r. ⌜ r ≡ agreeOf a b ⌝ }
+{
+    if a { b } else { !b }
+}
+
+// Net = open + bought − sold, of money that fits.
+fn net_kept(below: bool, size: u64, money: Money) -> bool
+    requires { ⌜ moneyFits money ≡ true ⌝ }
+    ensures { λ r. ⌜ r ≡ netKept below size (signedNet money) ⌝ }
+{
+    let net = signed_net(money);
+    let due = net.size;
+    agree(below, net.below) & (size == due.0)
+}
+
+// Whether a row keeps its rules.
+pub fn row_kept(row: Row) -> bool
+    ensures { λ r. ⌜ r ≡ rowKept row ⌝ }
+{
+    let maximum = row.maximum;
+    let own = row.own;
+    let money = row.money;
+    if !row_obeys(row.code, row.class, maximum, own, money) {
+        return false;
+    }
+    let net = row.net;
+    net_kept(row.below, net.0, money)
+}
+
 // A refused read.
 fn refused_row(refusal: u64) -> RowRead
     ensures { λ r. ⌜ r ≡ refusedRow refusal ⌝ }
@@ -146,11 +183,7 @@ fn made_row(code: u64, class: u64, maximum: Limit, own: Limit, money: Money) -> 
 fn shown_row(code: u64, class: u64, maximum: Limit, own: Limit, money: Money) -> RowRead
     ensures { λ r. ⌜ r ≡ shownRow code class maximum own money ⌝ }
 {
-    let kept = (code <= TOP_CODE) & (class_kept(class) & limits_kept(maximum, own));
-    if !kept {
-        return refused_row(UNSOUND);
-    }
-    if !money_fits(money) {
+    if !row_obeys(code, class, maximum, own, money) {
         return refused_row(UNSOUND);
     }
     made_row(code, class, maximum, own, money)
