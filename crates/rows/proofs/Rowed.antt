@@ -9,7 +9,8 @@ use lib.Dec.{leb, ltb}
 use Rattle.rules.specs.Tests.{both}
 use Rattle.rules.specs.Limits.{topCode, topMoney}
 use Rattle.rules.specs.Money.{mils}
-use Rattle.rules.specs.Refusals.{UNSOUND, unlessRefused}
+use Rattle.rules.specs.Refusals.{UNSOUND}
+use Rattle.rules.specs.Laws.{where-refused, where-accepted}
 use Rattle.rules.specs.declared.kinds.Money.{Money}
 use Rattle.rules.specs.declared.quotas.Limit.{Limit}
 use Rattle.register.specs.declared.groups.Group.{Group}
@@ -20,7 +21,7 @@ use Rattle.orders.specs.Booking.{moneyFits}
 use Rattle.rows.specs.declared.Net.{Net}
 use Rattle.rows.specs.declared.Row.{Row}
 use Rattle.rows.specs.declared.RowRead.{RowRead}
-use Rattle.rows.specs.Row.{signedNet, classKept, limitsKept, rowObeys, netKept, rowKept, refusedRow, madeRow, shownRow, rowRefusal, rowOf}
+use Rattle.rows.specs.Row.{signedNet, classKept, limitsKept, rowObeys, netKept, rowKept, refusedRow, madeRow, shownRow, rowRefusal, rowAt, rowOf}
 
 pub fits-known : (m : Money) → moneyFits m ≡ true → m .«open» .0 + m .bought .0 + m .sold .0 ≤ topMoney
 unfolding moneyFits
@@ -56,21 +57,19 @@ module _ (r : Row) (k : Bool) (p : k ≡ rowObeys (r .code) (r .class) (r .maxim
   unfolding rowKept
   kept-net n h e = rw (sym p ∙ not-false k h) e
 
+pub row-at-shown : (rs bs : List ℕ) (group : ℕ) (r : RowRead) (agreed : Group) (own : Limit) (money : Money) → agreed ≡ groupAt rs group → own ≡ ownInForce rs group → money ≡ moneyAt bs group
+    → r ≡ shownRow (agreed .code) (agreed .class) (agreed .quota .maximum) own money → r ≡ rowAt rs bs group
+unfolding rowAt
+row-at-shown rs bs group r agreed own money a o m p =
+    p ∙ ap (λ (g : Group). shownRow (g .code) (g .class) (g .quota .maximum) own money) a
+    ∙ ap (λ (x : Limit). shownRow ((groupAt rs group) .code) ((groupAt rs group) .class) ((groupAt rs group) .quota .maximum) x money) o
+    ∙ ap (λ (x : Money). shownRow ((groupAt rs group) .code) ((groupAt rs group) .class) ((groupAt rs group) .quota .maximum) (ownInForce rs group) x) m
+
 module _ (rs bs ps : List ℕ) (group q : ℕ) (r : RowRead) (e : q ≡ rowRefusal rs bs ps group) where
   pub row-refused : (q ≡ 0 → ⊥) → r ≡ refusedRow q → r ≡ rowOf rs bs ps group
   unfolding rowOf
-  row-refused n p = go (rowRefusal rs bs ps group) refl
-    where
-      go : (x : ℕ) → rowRefusal rs bs ps group ≡ x
-          → r ≡ unlessRefused (rowRefusal rs bs ps group) (shownRow ((groupAt rs group) .code) ((groupAt rs group) .class) ((groupAt rs group) .quota .maximum) (ownInForce rs group) (moneyAt bs group)) (refusedRow (rowRefusal rs bs ps group))
-      go zero f = absurd (n (e ∙ f))
-      go (suc x) f = rw f (p ∙ ap refusedRow (e ∙ f))
+  row-refused n p = p ∙ ap refusedRow e ∙ sym (where-refused (rowAt rs bs group) (refusedRow (rowRefusal rs bs ps group)) (rowRefusal rs bs ps group) (λ z. n (e ∙ z)))
 
-  pub row-shown : (agreed : Group) (own : Limit) (money : Money) → q ≡ 0 → agreed ≡ groupAt rs group → own ≡ ownInForce rs group → money ≡ moneyAt bs group
-      → r ≡ shownRow (agreed .code) (agreed .class) (agreed .quota .maximum) own money → r ≡ rowOf rs bs ps group
+  pub row-shown : q ≡ 0 → r ≡ rowAt rs bs group → r ≡ rowOf rs bs ps group
   unfolding rowOf
-  row-shown agreed own money z a o m p =
-      let f : rowRefusal rs bs ps group ≡ 0 = sym e ∙ z in
-      rw f (p ∙ ap (λ (g : Group). shownRow (g .code) (g .class) (g .quota .maximum) own money) a
-      ∙ ap (λ (x : Limit). shownRow ((groupAt rs group) .code) ((groupAt rs group) .class) ((groupAt rs group) .quota .maximum) x money) o
-      ∙ ap (λ (x : Money). shownRow ((groupAt rs group) .code) ((groupAt rs group) .class) ((groupAt rs group) .quota .maximum) (ownInForce rs group) x) m)
+  row-shown z p = p ∙ sym (where-accepted (rowAt rs bs group) (refusedRow (rowRefusal rs bs ps group)) (rowRefusal rs bs ps group) (sym e ∙ z))

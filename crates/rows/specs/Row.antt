@@ -89,11 +89,12 @@ unfoldable pub rowRefusal : List ℕ → List ℕ → List ℕ → ℕ → ℕ
 rowRefusal rs bs ps group =
     refusal ((UNSOUND, not (hostOk rs bs ps)) ∷ (OUT-OF-RANGE, not (isGroup group)) ∷ (NOT-THERE, not (isEnrolled rs group)) ∷ [])
 
+-- the row that a group's words say, whether or not the rest of the memory is sound
+unfoldable pub rowAt : List ℕ → List ℕ → ℕ → RowRead
+rowAt rs bs group = shownRow ((groupAt rs group) .code) ((groupAt rs group) .class) ((groupAt rs group) .quota .maximum) (ownInForce rs group) (moneyAt bs group)
+
 unfoldable pub rowOf : List ℕ → List ℕ → List ℕ → ℕ → RowRead
-rowOf rs bs ps group =
-    unlessRefused (rowRefusal rs bs ps group)
-    (shownRow ((groupAt rs group) .code) ((groupAt rs group) .class) ((groupAt rs group) .quota .maximum) (ownInForce rs group) (moneyAt bs group))
-    (refusedRow (rowRefusal rs bs ps group))
+rowOf rs bs ps group = unlessRefused (rowRefusal rs bs ps group) (rowAt rs bs group) (refusedRow (rowRefusal rs bs ps group))
 
 -- laws
 
@@ -137,13 +138,14 @@ shown-kept code class maximum own money z = go (rowObeys code class maximum own 
     go true e k = rw (e, agree-refl ((signedNet money) .below), eq-eqb ((signedNet money) .size .0) ((signedNet money) .size .0) refl)
     go false e k = absurd (omega (arith, k))
 
+pub row-at-kept : (rs bs : List ℕ) (group : ℕ) → (rowAt rs bs group) .refusal ≡ 0 → rowKept ((rowAt rs bs group) .row) ≡ true
+unfolding rowAt
+row-at-kept rs bs group z = shown-kept ((groupAt rs group) .code) ((groupAt rs group) .class) ((groupAt rs group) .quota .maximum) (ownInForce rs group) (moneyAt bs group) z
+
 pub row-of-kept : (rs bs ps : List ℕ) (group : ℕ) → (rowOf rs bs ps group) .refusal ≡ 0 → rowKept ((rowOf rs bs ps group) .row) ≡ true
 unfolding rowOf
 row-of-kept rs bs ps group z = go (rowRefusal rs bs ps group) z
   where
-    shown : RowRead
-    shown = shownRow ((groupAt rs group) .code) ((groupAt rs group) .class) ((groupAt rs group) .quota .maximum) (ownInForce rs group) (moneyAt bs group)
-
-    go : (q : ℕ) → (unlessRefused q shown (refusedRow q)) .refusal ≡ 0 → rowKept ((unlessRefused q shown (refusedRow q)) .row) ≡ true
-    go zero k = shown-kept ((groupAt rs group) .code) ((groupAt rs group) .class) ((groupAt rs group) .quota .maximum) (ownInForce rs group) (moneyAt bs group) k
+    go : (q : ℕ) → (unlessRefused q (rowAt rs bs group) (refusedRow q)) .refusal ≡ 0 → rowKept ((unlessRefused q (rowAt rs bs group) (refusedRow q)) .row) ≡ true
+    go zero k = row-at-kept rs bs group k
     go (suc q) k = absurd (omega (arith, k))

@@ -3,7 +3,7 @@
 ghost use mathlib.Core.Path.{_≡_};
 ghost use mathlib.Core.Bool.{true};
 ghost use Rattle.orders.specs.Booking.{moneyFits};
-ghost use Rattle.rows.specs.Row.{signedNet, madeRow, classKept, atMost, limitsKept, rowObeys, agree as agreeOf, netKept, rowKept, refusedRow, shownRow, rowRefusal, rowOf};
+ghost use Rattle.rows.specs.Row.{signedNet, madeRow, classKept, atMost, limitsKept, rowObeys, agree as agreeOf, netKept, rowKept, refusedRow, shownRow, rowRefusal, rowAt, rowOf};
 use book::totals::money_at;
 use orders::booking::money_fits;
 use orders::host::host_ok;
@@ -198,6 +198,18 @@ fn refusal_of_row(register: &[u64], book: &[u64], places: &[u64], group: u64) ->
     first(!host_ok(register, book, places), UNSOUND, r)
 }
 
+// The row that a group's words say, whether or not the rest of the memory is sound: for callers that have checked it once for all groups.
+pub fn row_at(register: &[u64], book: &[u64], group: u64) -> RowRead
+    ensures { λ r. ⌜ r ≡ rowAt (now (register .entry)) (now (book .entry)) group ⌝ }
+{
+    let agreed = group_at(register, group as usize);
+    let quota = agreed.quota;
+    let maximum = quota.maximum;
+    let own = own_in_force_of(register, group);
+    let money = money_at(book, group);
+    shown_row(agreed.code, agreed.class, maximum, own, money)
+}
+
 // The row of a group, by its number.
 pub fn row_of(register: &[u64], book: &[u64], places: &[u64], group: u64) -> RowRead
     ensures { λ r. ⌜ r ≡ rowOf (now (register .entry)) (now (book .entry)) (now (places .entry)) group ⌝ }
@@ -206,10 +218,5 @@ pub fn row_of(register: &[u64], book: &[u64], places: &[u64], group: u64) -> Row
     if refusal != 0 {
         return refused_row(refusal);
     }
-    let agreed = group_at(register, group as usize);
-    let quota = agreed.quota;
-    let maximum = quota.maximum;
-    let own = own_in_force_of(register, group);
-    let money = money_at(book, group);
-    shown_row(agreed.code, agreed.class, maximum, own, money)
+    row_at(register, book, group)
 }

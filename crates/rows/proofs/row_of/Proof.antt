@@ -14,30 +14,13 @@ refused-row-requires c κs = search needs
 returns : tie.Need-returns
 returns c = row-refused (now (c .before .before .before .before .before .before .args .register)) (now (c .before .before .before .before .before .before .args .book)) (now (c .before .before .before .before .before .before .args .places)) (c .before .before .before .before .before .before .args .group) (c .before .before .refusal-of-row .result) _ (c .before .before .refusal-of-row .ensures) (c .before .if1 .taken) (c .refused-row .ensures)
 
-group-at-requires : tie.Need-group-at-requires
-group-at-requires c κs = search needs
-
-own-in-force-of-requires : tie.Need-own-in-force-of-requires
-own-in-force-of-requires c κs = search needs
-
-money-at-requires : tie.Need-money-at-requires
-money-at-requires c κs = search needs
-
-shown-row-requires : tie.Need-shown-row-requires
-shown-row-requires c κs = search needs
+row-at-requires : tie.Need-row-at-requires
+row-at-requires c κs = search needs
 
 returns-2 : tie.Need-returns-2
-returns-2 c = row-shown (now (c .before .before .before .before .before .before .before .before .before .before .args .register)) (now (c .before .before .before .before .before .before .before .before .before .before .args .book)) (now (c .before .before .before .before .before .before .before .before .before .before .args .places)) (c .before .before .before .before .before .before .before .before .before .before .args .group) (c .before .before .before .before .before .before .refusal-of-row .result) _ (c .before .before .before .before .before .before .refusal-of-row .ensures) (c .before .before .before .before .group-at .result) (c .before .before .own-in-force-of .result) (c .before .money-at .result) (c .before .before .before .before .before .if1 .left) (c .before .before .before .before .group-at .ensures) (c .before .before .own-in-force-of .ensures) (c .before .money-at .ensures) (c .shown-row .ensures)
+returns-2 c = row-shown (now (c .before .before .before .before .before .before .args .register)) (now (c .before .before .before .before .before .before .args .book)) (now (c .before .before .before .before .before .before .args .places)) (c .before .before .before .before .before .before .args .group) (c .before .before .refusal-of-row .result) _ (c .before .before .refusal-of-row .ensures) (c .before .if1 .left) (c .row-at .ensures)
 
 pub row-of-spec : {M : Type 1} → statement M
 row-of-spec =
     tie.close
-    (tie.spec
-    refusal-of-row-requires
-    refused-row-requires
-    returns
-    group-at-requires
-    own-in-force-of-requires
-    money-at-requires
-    shown-row-requires
-    returns-2)
+    (tie.spec refusal-of-row-requires refused-row-requires returns row-at-requires returns-2)
