@@ -1,0 +1,5 @@
+pub mod Table
+pub mod Steps
+pub mod Room
+pub mod Scanned
+pub mod Answers

@@ -1,0 +1,17 @@
+-- `columns::powers::power` meets its contract. Assumes nothing.
+use Rattle.columns.proofs.Table.{power-at}
+use borrow.Author.Needs.{needs}
+use Rattle.columns.proofs.powers.power.Statement.{statement}
+use Rattle.columns.proofs.powers.power.Tie as tie
+
+mul-result : tie.Need-mul-result
+mul-result c = search needs
+
+array-read-result : tie.Need-array-read-result
+array-read-result c = search needs
+
+returns : tie.Need-returns
+returns c = power-at (c .args .k) (search needs)
+
+pub power-spec : {M : Type 1} → statement M
+power-spec = tie.close (tie.spec mul-result array-read-result returns)

@@ -1,0 +1,59 @@
+-- `columns::written::put_signed` meets its contract. Assumes nothing.
+use Prim.Native.Nat.{ℕ}
+use mathlib.Core.Path.{ap, sym, _∙_}
+use lib.ListN.{length}
+use lib.Seq.{paste}
+use Rattle.columns.specs.Column.{holds, marked, signedFits}
+use Rattle.columns.specs.Laws.{signed-small}
+use Rattle.columns.specs.Pastes.{signed-put, signed-kept}
+use Rattle.columns.proofs.Room.{told, held, unheld, unfit}
+use borrow.Author.Needs.{needs}
+use Rattle.columns.proofs.written.put_signed.Statement.{statement}
+use Rattle.columns.proofs.written.put_signed.Tie as tie
+
+holds-requires : tie.Need-holds-requires
+holds-requires c κs = search needs
+
+returns : tie.Need-returns
+returns c =
+    let a = c .before .before .before .args in
+    sym (signed-kept (a .out .now) (a .at) (a .w) (a .below) (a .size) (unheld (length (a .out .now)) (a .at) (a .w) (c .before .holds .result) (signedFits (a .w) (a .below) (a .size)) (c .before .holds .ensures) (c .if1 .taken)))
+
+signed-fits-requires : tie.Need-signed-fits-requires
+signed-fits-requires c κs = search needs
+
+returns-2 : tie.Need-returns-2
+returns-2 c =
+    let a = c .before .before .before .before .before .args in
+    sym (signed-kept (a .out .now) (a .at) (a .w) (a .below) (a .size) (unfit (holds (length (a .out .now)) (a .at) (a .w)) (c .before .signed-fits .result) (signedFits (a .w) (a .below) (a .size)) (c .before .signed-fits .ensures) (c .if2 .taken)))
+
+mark-of-requires : tie.Need-mark-of-requires
+mark-of-requires c κs = search needs
+
+put-marked-requires : tie.Need-put-marked-requires
+put-marked-requires c κs =
+    let a = c .before .before .before .before .before .before .before .args in
+    (held (length (a .out .now)) (a .at) (a .w) (c .before .before .before .before .before .holds .result) (c .before .before .before .before .before .holds .ensures) (c .before .before .before .before .if1 .left), signed-small (a .w) (a .below) (a .size) (told (c .before .before .before .signed-fits .result) (signedFits (a .w) (a .below) (a .size)) (c .before .before .before .signed-fits .ensures) (c .before .before .if2 .left)))
+
+same-length : tie.Need-same-length
+same-length c = search needs
+
+returns-3 : tie.Need-returns-3
+returns-3 c =
+    let a = c .before .before .before .before .before .before .before .before .before .before .args in
+    c .before .before .put-marked .ensures
+    ∙ ap (λ (m : ℕ). paste (a .out .now) (a .at) (marked m (a .w) (a .size)) (a .w)) (c .before .before .before .mark-of .ensures)
+    ∙ sym (signed-put (a .out .now) (a .at) (a .w) (a .below) (a .size) (held (length (a .out .now)) (a .at) (a .w) (c .before .before .before .before .before .before .before .before .holds .result) (c .before .before .before .before .before .before .before .before .holds .ensures) (c .before .before .before .before .before .before .before .if1 .left)) (told (c .before .before .before .before .before .before .signed-fits .result) (signedFits (a .w) (a .below) (a .size)) (c .before .before .before .before .before .before .signed-fits .ensures) (c .before .before .before .before .before .if2 .left)))
+
+pub put-signed-spec : {M : Type 1} → statement M
+put-signed-spec =
+    tie.close
+    (tie.spec
+    holds-requires
+    returns
+    signed-fits-requires
+    returns-2
+    mark-of-requires
+    put-marked-requires
+    same-length
+    returns-3)

@@ -1,0 +1,5 @@
+pub mod Column
+pub mod Scan
+pub mod Laws
+pub mod Pastes
+pub mod Examples
