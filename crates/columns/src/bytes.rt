@@ -6,7 +6,7 @@ ghost use lib.Seq.{paste};
 ghost use Rattle.columns.specs.Column.{same, part, minus, holds as holdsOf, sameAt, textPut};
 
 // Whether l bytes hold w bytes from at on. The sum of at and w may be too large for a usize, so it is not made.
-pub(crate) fn holds(l: usize, at: usize, w: usize) -> bool
+pub fn holds(l: usize, at: usize, w: usize) -> bool
     ensures { λ r. ⌜ r ≡ holdsOf l at w ⌝ }
 {
     if l < w {

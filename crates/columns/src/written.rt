@@ -11,7 +11,7 @@ use crate::powers::power;
 const MOST: u64 = 10_000_000_000_000_000_000;
 
 // Whether w columns hold n.
-fn fits(w: usize, n: u64) -> bool
+pub fn fits(w: usize, n: u64) -> bool
     ensures { λ r. ⌜ r ≡ fitsOf w n ⌝ }
 {
     if 19 <= w {
