@@ -1,20 +1,26 @@
 -- What the functions that read a column answer, over plain values. Assumes nothing.
 use Prim.Native.Nat.{ℕ, _+_, _-_, _≤_, _<_}
-use mathlib.Core.Path.{_≡_, ap, sym, _∙_}
+use mathlib.Core.Path.{_≡_, refl, ap, sym, _∙_}
 use mathlib.Core.Bool.{Bool, true, false, not, _&&_, _||_}
 use mathlib.Core.List.{List}
 use native.Mathlib.Omega.{arith}
-use borrow.Author.Tests.{le-leb, lt-leb}
+use borrow.Author.Tests.{leb-true, le-leb, lt-leb}
 use lib.Dec.{eqb, leb}
 use lib.ListN.{length, getD, drop}
-use Rattle.columns.specs.Column.{pick, marked, dashed, digits, same, minus, readPlain, readOptional, readSigned, part, holds, plainAt, optionalAt, signedAt, sameAt}
-use Rattle.columns.specs.Scan.{blanks, allDigits, numeral, scanned}
+use Rattle.columns.specs.Column.{pick, marked, dashed, number as numberOf, digits, same, minus, readPlain, readOptional, readSigned, part, holds, plainAt, optionalAt, signedAt, sameAt}
+use Rattle.columns.specs.Scan.{blanks, allDigits}
 use Rattle.columns.specs.Pastes.{length-part, getD-part}
 use Rattle.columns.specs.declared.reading.Plain.{Plain}
 use Rattle.columns.specs.declared.reading.Optional.{Optional}
 use Rattle.columns.specs.declared.reading.Signed.{Signed}
 use Rattle.columns.proofs.Steps.{part-from}
-use Rattle.columns.proofs.Scanned.{scan-plain}
+use Rattle.columns.proofs.Scanned.{numeral, scanned, scan-plain, digits-past, digits-short}
+
+-- ---- the scan and the digits make a plain column
+
+plain-of : (p : List ℕ) (f : Bool) (n : ℕ) → f ≡ scanned p → n ≡ digits p → _≡_ {A = Plain} (record { formed = f; number = n }) (readPlain p)
+unfolding readPlain
+plain-of p f n ef en = rw (ef ∙ scan-plain p, en)
 
 -- ---- a text too short
 
@@ -39,35 +45,36 @@ pub same-long : (t s : List ℕ) (at : ℕ) (r : Bool) → holds (length t) at (
 unfolding sameAt
 same-long t s at r e f = rw (e, f)
 
--- ---- the scan
+-- ---- the scan: k blanks, and n bytes behind them
 
-module _ (t : List ℕ) (at w : ℕ) (h : at + w ≤ length t) where
-  pub numeral-none : w < 1 → false ≡ numeral (part t at w)
-  unfolding numeral
-  numeral-none l = rw (length-part t at w h, lt-leb 1 w l)
+module _ (t : List ℕ) (at w k n : ℕ) (h : at + w ≤ length t) (ek : k ≡ blanks (part t at w)) (most : k ≤ w) (en : n ≡ w - k) where
+  rest : part t (at + k) n ≡ drop (blanks (part t at w)) (part t at w)
+  rest = ap (λ (m : ℕ). part t (at + k) m) en ∙ part-from t at w k ∙ ap (λ (j : ℕ). drop j (part t at w)) ek
 
-  pub numeral-long : 1 ≤ w → 19 < w → false ≡ numeral (part t at w)
-  unfolding numeral
-  numeral-long k l = rw (length-part t at w h, le-leb 1 w k, lt-leb w 19 l)
+  long : length (part t (at + k) n) ≡ n
+  long = length-part t (at + k) n (omega arith)
 
-  pub numeral-test : (r : Bool) → 1 ≤ w → w ≤ 19 → r ≡ allDigits (part t at w) → ((leb w 1 || not (eqb (getD t at 0) 48)) && r) ≡ numeral (part t at w)
-  unfolding numeral
-  numeral-test r k l e =
-      let g : getD (part t at w) 0 0 ≡ getD t at 0 = getD-part t at w 0 k ∙ ap (λ (i : ℕ). getD t i 0) first in
-      rw (length-part t at w h, le-leb 1 w k, le-leb w 19 l, g, e)
+  pub plain-long : (number : ℕ) → 19 < n → number ≡ digits (part t at w) → _≡_ {A = Plain} (record { formed = false; number = number }) (readPlain (part t at w))
+  unfolding scanned numeral
+  plain-long number l e = plain-of (part t at w) false number (none ∙ sym (ap numeral (sym rest))) e
     where
-      first : at + 0 ≡ at
-      first = omega arith
+      none : false ≡ numeral (part t (at + k) n)
+      none = rw (long, lt-leb n 19 l, le-leb 1 n (omega arith))
 
-  pub scanned-from : (k : ℕ) (r : Bool) → k ≡ blanks (part t at w) → r ≡ numeral (part t (at + k) (w - k)) → r ≡ scanned (part t at w)
-  unfolding scanned
-  scanned-from k r e f = f ∙ ap numeral (part-from t at w k) ∙ ap (λ (j : ℕ). numeral (drop j (part t at w))) e
+  pub plain-run : (leads ran : Bool) (number : ℕ) → n ≤ 19 → leads ≡ (leb n 1 || not (eqb (getD t (at + k) 0) 48)) → ran ≡ allDigits (part t (at + k) n)
+      → number ≡ numberOf (part t (at + k) n) → _≡_ {A = Plain} (record { formed = leb 1 n && (leads && ran); number = number }) (readPlain (part t at w))
+  unfolding scanned numeral
+  plain-run leads ran number l el er e = plain-of (part t at w) (leb 1 n && (leads && ran)) number (go (leb 1 n) refl ∙ ap numeral rest) count
+    where
+      count : number ≡ digits (part t at w)
+      count = e ∙ sym (digits-short (part t (at + k) n) (omega (arith, long))) ∙ ap digits rest ∙ sym (digits-past (part t at w))
 
--- ---- a text long enough
-
-pub plain-of : (p : List ℕ) (f : Bool) (n : ℕ) → f ≡ scanned p → n ≡ digits p → _≡_ {A = Plain} (record { formed = f; number = n }) (readPlain p)
-unfolding readPlain
-plain-of p f n ef en = rw (ef ∙ scan-plain p, en)
+      go : (b : Bool) → leb 1 n ≡ b → (leb 1 n && (leads && ran)) ≡ numeral (part t (at + k) n)
+      go true f =
+          let z : at + k + 0 ≡ at + k = omega arith in
+          let g : getD (part t (at + k) n) 0 0 ≡ getD t (at + k) 0 = getD-part t (at + k) n 0 (leb-true 1 n f) ∙ ap (λ (i : ℕ). getD t i 0) z in
+          rw (long, f, le-leb n 19 l, g, el, er)
+      go false f = rw (long, f)
 
 pub optional-missing : (p : List ℕ) (w : ℕ) (m r : Bool) → length p ≡ w → m ≡ minus p → m ≡ true → r ≡ same p (dashed w)
     → _≡_ {A = Optional} (record { formed = r; present = false; number = 0 }) (readOptional p)

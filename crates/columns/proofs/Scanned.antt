@@ -4,16 +4,24 @@ use Prim.Native.Nat.{ℕ, zero, suc, _+_, _*_, _-_, _/_, _%_, _^_, min, _≤_, _
 use mathlib.Core.Path.{_≡_, refl, ap, sym, _∙_}
 use mathlib.Core.Bool.{Bool, true, false, not, _&&_, _||_}
 use mathlib.Core.List.{List, [], _∷_}
-use native.Mathlib.Nat.{mod-lt, mod-eq-of-lt, pow-succ', mul-assoc, add-mul, le-div-iff-mul-le, div-lt-iff-lt-mul, min-le-left, mul-add-mod-self-right, mul-le-mul-right, one-mul}
+use native.Mathlib.Nat.{mod-lt, mod-eq-of-lt, pow-succ', le-div-iff-mul-le, div-lt-iff-lt-mul, min-le-left, mul-add-mod-self-right, mul-le-mul-right, one-mul}
 use native.Mathlib.Omega.{arith}
 use borrow.Author.Tests.{ltb-true, ltb-false, lt-ltb, le-ltb, leb-true, leb-false, le-leb, lt-leb, ne-eqb, eqb-true, eqb-false, not-true}
 use lib.Arith.{digits-div}
 use lib.Dec.{eqb, leb, ltb}
-use lib.ListN.{length, drop}
+use lib.ListN.{length, getD, drop}
 use Rattle.columns.specs.Column.{pick, blank, byteAt, marked, column, digit, number, digits, same, readPlain}
-use Rattle.columns.specs.Scan.{blanks, isDigit, allDigits, numeral, scanned}
+use Rattle.columns.specs.Scan.{blanks, isDigit, allDigits}
 use Rattle.columns.specs.Laws.{both, ten-pos, below-up, byte-digit, blank-here, blank-down, digit-small, number-bound, digits-bound, digits-small, same-refl, same-true}
-use Rattle.columns.proofs.Steps.{near}
+use Rattle.columns.proofs.Steps.{near, joined}
+
+-- a number as written without blanks: "no leading zeros", nineteen digits at most
+unfoldable pub numeral : List ℕ → Bool
+numeral t = (leb 1 (length t) && leb (length t) 19) && ((leb (length t) 1 || not (eqb (getD t 0 0) 48)) && allDigits t)
+
+-- blanks, and then a number
+unfoldable pub scanned : List ℕ → Bool
+scanned t = numeral (drop (blanks t) t)
 
 abbrev formed : List ℕ → Bool
 formed t = leb 1 (length t) && same t (column (length t) (digits t))
@@ -72,10 +80,6 @@ not-blank n k h = go (ltb 0 k) (le-ltb n (10 ^ k) h)
     go true e = e
     go false e = refl
 
--- q digits and one more, with the power that stands behind them
-joined : (q d x r : ℕ) → q * (10 * x) + (d * x + r) ≡ (q * 10 + d) * x + r
-joined q d x r = omega (arith, mul-assoc q 10 x, add-mul (q * 10) d x)
-
 -- at least the power before it
 led : (q x r : ℕ) → 1 ≤ q → x ≤ q * x + r
 led q x r h = omega (arith, mul-le-mul-right x h, one-mul x)
@@ -114,7 +118,7 @@ passed : (b : ℕ) (bs : List ℕ) → Numeral b bs → numeral (b ∷ bs) ≡ t
 unfolding numeral allDigits
 passed b bs n = rw (le-leb 1 (suc (length bs)) (omega arith), le-leb (suc (length bs)) 19 (n .short), n .first, n .digit, n .rest)
 
-digits-short : (t : List ℕ) → length t ≤ 19 → digits t ≡ number t
+pub digits-short : (t : List ℕ) → length t ≤ 19 → digits t ≡ number t
 unfolding digits
 digits-short t h = let z : length t - 19 ≡ 0 = omega arith in rw z refl
 
@@ -215,3 +219,13 @@ scan (b ∷ bs) = go (eqb b 32) refl (scan bs)
 pub scan-plain : (t : List ℕ) → scanned t ≡ (readPlain t) .formed
 unfolding readPlain
 scan-plain t = scan t
+
+-- blanks in front change no number
+pub digits-past : (t : List ℕ) → digits t ≡ digits (drop (blanks t) t)
+unfolding blanks
+digits-past [] = refl
+digits-past (b ∷ bs) = go (eqb b 32) refl (digits-past bs)
+  where
+    go : (x : Bool) → eqb b 32 ≡ x → digits bs ≡ digits (drop (blanks bs) bs) → digits (b ∷ bs) ≡ digits (drop (pick x (suc (blanks bs)) 0) (b ∷ bs))
+    go true e rec = ap (λ (z : ℕ). digits (z ∷ bs)) (eqb-true b 32 e) ∙ digits-blank bs ∙ rec
+    go false e rec = refl

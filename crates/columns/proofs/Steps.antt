@@ -3,6 +3,7 @@ use Prim.Native.Nat.{ℕ, zero, suc, _+_, _*_, _-_, _^_, min, _≤_, _<_}
 use mathlib.Core.Path.{_≡_, refl, ap, sym, _∙_}
 use mathlib.Core.Bool.{Bool, true, false, _&&_, false≢true}
 use mathlib.Core.List.{List, [], _∷_}
+use native.Mathlib.Nat.{mul-assoc, add-mul, pow-succ', le-mul-of-pos-right}
 use native.Mathlib.Numerals.{add-one}
 use native.Mathlib.Omega.{arith}
 use borrow.Author.Tests.{ltb-true, ltb-false, lt-ltb, eq-eqb, ne-eqb}
@@ -11,7 +12,7 @@ use lib.ListN.{length, getD, set, take, drop, length-drop, drop-of-length-le}
 use lib.Seq.{paste, paste-suc, drop-cons, drop-drop}
 use Rattle.columns.specs.Column.{pick, blank, byteAt, marked, dashed, digit, number, digits, same, minus, part}
 use Rattle.columns.specs.Scan.{blanks, isDigit, allDigits}
-use Rattle.columns.specs.Laws.{below-up, number-bound, read-bytes}
+use Rattle.columns.specs.Laws.{ten-pos, below-up, number-bound, read-bytes}
 use Rattle.columns.specs.Pastes.{length-part, getD-part}
 
 -- what is left of a list from i on, one element and the rest
@@ -79,7 +80,7 @@ module _ (t s : List ℕ) (at w i : ℕ) (h : at + w ≤ length t) (ls : length 
   unfolding same
   same-over l = rw (part-over t at w i h l, drop-of-length-le s {i = i} (rw ls l))
 
--- ---- a minus looked for; blanks counted; digits tested
+-- ---- a minus looked for; blanks counted
 
 module _ (t : List ℕ) (at w i : ℕ) (h : at + w ≤ length t) where
   pub minus-here : i < w → getD t (at + i) 0 ≡ 45 → minus (drop i (part t at w)) ≡ true
@@ -106,18 +107,6 @@ module _ (t : List ℕ) (at w i : ℕ) (h : at + w ≤ length t) where
   unfolding blanks
   blanks-over l = rw (part-over t at w i h l)
 
-  pub digits-here : i < w → isDigit (getD t (at + i) 0) ≡ false → allDigits (drop i (part t at w)) ≡ false
-  unfolding allDigits
-  digits-here l e = rw (part-next t at w i h l, e)
-
-  pub digits-on : i < w → isDigit (getD t (at + i) 0) ≡ true → allDigits (drop i (part t at w)) ≡ allDigits (drop (i + 1) (part t at w))
-  unfolding allDigits
-  digits-on l e = rw (part-next t at w i h l, e)
-
-  pub digits-over : w ≤ i → allDigits (drop i (part t at w)) ≡ true
-  unfolding allDigits
-  digits-over l = rw (part-over t at w i h l)
-
   pub number-over : w ≤ i → number (drop i (part t at w)) ≡ 0
   unfolding number
   number-over l = rw (part-over t at w i h l)
@@ -140,6 +129,49 @@ module _ (t : List ℕ) (at w i sum d p : ℕ) (h : at + w ≤ length t) (most :
 
   pub sum-fits : sum + d * p < 2 ^ 64
   sum-fits = omega (arith, sum-on, bound)
+
+-- ---- digits from left to right: the number so far, and whether all so far are digits
+
+-- q digits and one more, with the power that stands behind them
+pub joined : (q d x r : ℕ) → q * (10 * x) + (d * x + r) ≡ (q * 10 + d) * x + r
+joined q d x r = omega (arith, mul-assoc q 10 x, add-mul (q * 10) d x)
+
+module _ (t : List ℕ) (at w i : ℕ) (h : at + w ≤ length t) where
+  all-step : i < w → allDigits (drop i (part t at w)) ≡ (isDigit (getD t (at + i) 0) && allDigits (drop (i + 1) (part t at w)))
+  unfolding allDigits
+  all-step l = rw (part-next t at w i h l)
+
+  pub all-on : (f g : Bool) → i < w → allDigits (part t at w) ≡ (f && allDigits (drop i (part t at w))) → g ≡ isDigit (getD t (at + i) 0)
+      → allDigits (part t at w) ≡ ((f && g) && allDigits (drop (i + 1) (part t at w)))
+  all-on true g l e eg = e ∙ all-step l ∙ ap (λ (x : Bool). x && allDigits (drop (i + 1) (part t at w))) (sym eg)
+  all-on false g l e eg = e
+
+  pub all-over : (f : Bool) → w ≤ i → allDigits (part t at w) ≡ (f && allDigits (drop i (part t at w))) → f ≡ allDigits (part t at w)
+  unfolding allDigits
+  all-over f l e = sym (e ∙ rw (part-over t at w i h l) (last f))
+    where
+      last : (b : Bool) → (b && true) ≡ b
+      last true = refl
+      last false = refl
+
+  module _ (sum d : ℕ) (most : w ≤ 19) (l : i < w) (inv : number (part t at w) ≡ sum * 10 ^ (w - i) + number (drop i (part t at w)))
+      (ed : d ≡ digit (getD t (at + i) 0)) where
+    pub run-on : number (part t at w) ≡ (sum * 10 + d) * 10 ^ (w - (i + 1)) + number (drop (i + 1) (part t at w))
+    run-on =
+        let k : w - i ≡ suc (w - (i + 1)) = omega arith in
+        let j : w - 1 - i ≡ w - (i + 1) = omega arith in
+        let p : 10 ^ (w - i) ≡ 10 * 10 ^ (w - (i + 1)) = ap (λ (m : ℕ). 10 ^ m) k ∙ pow-succ' 10 (w - (i + 1)) in
+        let n : number (drop i (part t at w)) ≡ d * 10 ^ (w - (i + 1)) + number (drop (i + 1) (part t at w)) = rw (ed, ← j) (number-on t at w i h l) in
+        inv ∙ rw (p, n) (joined sum d (10 ^ (w - (i + 1))) (number (drop (i + 1) (part t at w))))
+
+    pub run-fits : sum * 10 + d < 2 ^ 64
+    run-fits =
+        omega (arith, run-on, le-mul-of-pos-right (sum * 10 + d) (ten-pos (w - (i + 1))), below-up (number (part t at w)) w 19 (rw (length-part t at w h) at (number-bound (part t at w))) most)
+
+pub run-over : (t : List ℕ) (at w i sum : ℕ) → at + w ≤ length t → w ≤ i → number (part t at w) ≡ sum * 10 ^ (w - i) + number (drop i (part t at w)) → sum ≡ number (part t at w)
+run-over t at w i sum h l e =
+    let z : w - i ≡ 0 = omega arith in
+    sym (e ∙ rw (z, number-over t at w i h l) (omega arith))
 
 -- ---- a part of a part
 

@@ -6,6 +6,7 @@ use Prim.Native.Nat.{ℕ, zero, suc, _+_, _^_, _<_}
 use native.Mathlib.Nat.{add-zero, zero-add, add-suc, suc-add, le-of-suc-le-suc, not-suc-le-zero}
 use lib.Dec.{T, eqb, eqb→eq}
 use lib.ListN.{length, getD}
+use Rattle.columns.specs.Powers.{powersOfTen}
 
 abbrev pub both : Bool → Bool → Bool
 both true b = b
@@ -36,14 +37,9 @@ at f xs t k h = subst (λ (m : ℕ). T (f m (getD xs k 0))) (zero-add k) (from f
 
 -- ---- the nineteen powers of ten
 
-abbrev pub powers : List ℕ
-powers =
-    1 ∷ 10 ∷ 100 ∷ 1000 ∷ 10000 ∷ 100000 ∷ 1000000 ∷ 10000000 ∷ 100000000 ∷ 1000000000 ∷ 10000000000 ∷ 100000000000 ∷ 1000000000000
-    ∷ 10000000000000 ∷ 100000000000000 ∷ 1000000000000000 ∷ 10000000000000000 ∷ 100000000000000000 ∷ 1000000000000000000 ∷ []
-
 right : ℕ → ℕ → Bool
 right k x = eqb x (10 ^ k)
 
-pub power-at : (k : ℕ) → k < 19 → getD powers k 0 ≡ 10 ^ k
+pub power-at : (k : ℕ) → k < 19 → getD powersOfTen k 0 ≡ 10 ^ k
 unfolding right
-power-at k h = eqb→eq (getD powers k 0) (10 ^ k) (at right powers tt k h)
+power-at k h = eqb→eq (getD powersOfTen k 0) (10 ^ k) (at right powersOfTen tt k h)

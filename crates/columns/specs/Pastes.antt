@@ -4,11 +4,14 @@ use Prim.Native.Nat.{ℕ, _+_, _-_, _≤_, _<_}
 use mathlib.Core.Path.{_≡_, ap, sym, _∙_}
 use mathlib.Core.Bool.{Bool, true, false, _&&_}
 use mathlib.Core.List.{List, [], _++_, append-assoc, append-nil}
+use native.Mathlib.Nat.{zero-add}
 use native.Mathlib.Omega.{arith}
 use borrow.Author.Tests.{le-leb, lt-leb}
-use lib.ListN.{length, getD, take, drop, length-drop, drop-of-length-le}
-use lib.Seq.{paste, take-paste, drop-paste, take-append-add, drop-append-add, take-append-le, drop-append-le, take-all, take-at, drop-at, drop-drop, length-take-le, getD-take, getD-drop}
+use lib.ListN.{length, getD, take, drop, length-append, length-drop, drop-of-length-le}
+use lib.Seq.{paste, take-paste, drop-paste, take-append-add, drop-append-add, take-append-le, drop-append-le, take-all, take-at, drop-at, drop-drop, length-take-le, length-paste, getD-take, getD-drop}
 use Rattle.columns.specs.Column.{column, optionalText, signedText, fits, optionalFits, signedFits, readPlain, readOptional, readSigned, part, holds, plainAt, optionalAt, signedAt, plainPut, optionalPut, signedPut, textPut}
+use Rattle.columns.specs.Laws.{length-marked, plain-back, plain-only}
+use Rattle.columns.specs.declared.reading.Plain.{Plain}
 
 -- ---- put
 
@@ -24,6 +27,10 @@ chain d a b at m n h la =
     let e₄ : take (m + n) (a ++ b) ≡ a ++ take n b = ap (λ (k : ℕ). take (k + n) (a ++ b)) (sym la) ∙ take-append-add a b n in
     let e₅ : at + (m + n) ≡ at + m + n = omega arith in
     rw (e₁, e₂, e₃, e₄, e₅) (simp append-assoc)
+
+-- from the start of a buffer on
+pub chain-on : (d a b : List ℕ) (m n : ℕ) → m + n ≤ length d → length a ≡ m → paste (paste d 0 a m) m b n ≡ paste d 0 (a ++ b) (m + n)
+chain-on d a b m n h la = ap (λ (k : ℕ). paste (paste d 0 a m) k b n) (sym (zero-add m)) ∙ chain d a b 0 m n (omega arith) la
 
 -- a text pasted over a whole buffer
 pub whole : (d s : List ℕ) (w : ℕ) → length d ≡ w → length s ≡ w → paste d 0 s w ≡ s
@@ -72,6 +79,28 @@ pub text-kept : (d : List ℕ) (at : ℕ) (s : List ℕ) → length d < at + len
 unfolding textPut
 text-kept d at s h = rw (lt-leb (at + length s) (length d) h)
 
+-- a column, or a text, put behind what was put before: o is the buffer d with a at its place, o′ is o with the column behind it
+module _ (d a o o′ : List ℕ) (at m w : ℕ) (h : at + (m + w) ≤ length d) (la : length a ≡ m) (e : o ≡ paste d at a m) where
+  room : at + m + w ≤ length o
+  room = rw e (omega (arith, length-paste d at a m (omega arith) (omega arith)))
+
+  next : (s : List ℕ) → o′ ≡ paste o (at + m) s w → o′ ≡ paste d at (a ++ s) (m + w)
+  next s f = f ∙ ap (λ (x : List ℕ). paste x (at + m) s w) e ∙ chain d a s at m w h la
+
+  pub plain-behind : (n : ℕ) → fits w n ≡ true → o′ ≡ plainPut o (at + m) w n → o′ ≡ paste d at (a ++ column w n) (m + w)
+  plain-behind n f g = next (column w n) (g ∙ plain-put o (at + m) w n room f)
+
+  pub optional-behind : (present : Bool) (n : ℕ) → optionalFits w present n ≡ true → o′ ≡ optionalPut o (at + m) w present n
+      → o′ ≡ paste d at (a ++ optionalText w present n) (m + w)
+  optional-behind present n f g = next (optionalText w present n) (g ∙ optional-put o (at + m) w present n room f)
+
+  pub signed-behind : (below : Bool) (n : ℕ) → signedFits w below n ≡ true → o′ ≡ signedPut o (at + m) w below n
+      → o′ ≡ paste d at (a ++ signedText w below n) (m + w)
+  signed-behind below n f g = next (signedText w below n) (g ∙ signed-put o (at + m) w below n room f)
+
+  pub text-behind : (s : List ℕ) → length s ≡ w → o′ ≡ textPut o (at + m) s → o′ ≡ paste d at (a ++ s) (m + w)
+  text-behind s l g = next s (g ∙ text-put o (at + m) s (rw l room) ∙ ap (λ (k : ℕ). paste o (at + m) s k) l)
+
 -- ---- read
 
 pub length-part : (t : List ℕ) (at n : ℕ) → at + n ≤ length t → length (part t at n) ≡ n
@@ -112,3 +141,18 @@ module _ (t : List ℕ) (at w : ℕ) (h : at + w ≤ length t) where
   pub signed-read : signedAt t at w ≡ readSigned (part t at w)
   unfolding signedAt
   signed-read = rw (le-leb (at + w) (length t) h)
+
+-- a column that is formed at a place is what is written for its number, with room for it
+pub plain-at-only : (t : List ℕ) (at w : ℕ) → at + w ≤ length t → (plainAt t at w) .formed ≡ true
+    → (part t at w ≡ column w ((plainAt t at w) .number)) × (fits w ((plainAt t at w) .number) ≡ true)
+plain-at-only t at w h f =
+    let e : plainAt t at w ≡ readPlain (part t at w) = plain-read t at w h in
+    let o = plain-only (part t at w) (ap (λ (p : Plain). p .formed) (sym e) ∙ f) in
+    let l : length (part t at w) ≡ w = length-part t at w h in
+    rw e (rw l at o)
+
+-- a column that was written behind a is read there
+pub plain-at-back : (t a rest : List ℕ) (at w n : ℕ) → t ≡ a ++ (column w n ++ rest) → length a ≡ at → fits w n ≡ true → plainAt t at w ≡ record { formed = true; number = n }
+plain-at-back t a rest at w n e la f =
+    let h : at + w ≤ length t = rw e (simp (length-append, length-marked) (omega arith)) in
+    plain-read t at w h ∙ ap readPlain (ap (λ (x : List ℕ). part x at w) e ∙ behind a (column w n) rest at w la (length-marked 32 w n)) ∙ plain-back w n f

@@ -67,7 +67,7 @@ pub(crate) fn minus_at(text: &[u8], at: usize, w: usize) -> bool
 {
     let mut i: usize = 0;
     while i < w {
-        if text[at + i] == 45 {
+        if text[at + i] == b'-' {
             return true;
         }
         i += 1;

@@ -1,14 +1,15 @@
 // Numbers read from columns of a text: plain, optional and signed.
 ghost use mathlib.Core.Path.{_≡_};
-ghost use mathlib.Core.Bool.{_&&_};
+ghost use mathlib.Core.Bool.{not, _||_};
 ghost use Prim.Native.Nat.{_+_, _*_, _-_, _≤_, _<_, _^_, min};
-ghost use lib.Dec.{leb};
-ghost use lib.ListN.{length};
+ghost use lib.Dec.{eqb, leb};
+ghost use lib.ListN.{length, getD};
 ghost use Rattle.columns.specs.Column.{marked, dashed, digit as digitOf, number, digits, same, part, readPlain, plainAt, optionalAt, signedAt};
-ghost use Rattle.columns.specs.Scan.{blanks, isDigit, allDigits, numeral, scanned};
+ghost use Rattle.columns.specs.Scan.{blanks, isDigit, allDigits};
 use crate::bytes::holds;
 use crate::bytes::minus_at;
 use crate::powers::POWERS;
+use crate::powers::power;
 use crate::written::byte_at;
 use crate::written::mark_of;
 
@@ -33,8 +34,8 @@ pub struct Signed {
 fn digit(b: u8) -> u64
     ensures { λ r. ⌜ r ≡ digitOf b ⌝ }
 {
-    if (48 <= b) & (b <= 57) {
-        (b - 48) as u64
+    if (b'0' <= b) & (b <= b'9') {
+        (b - b'0') as u64
     } else {
         0
     }
@@ -50,7 +51,7 @@ fn number_at(text: &[u8], at: usize, w: usize) -> u64
     let mut i: usize = 0;
     while i < w {
         let d = digit(text[at + i]);
-        sum = sum + d * powers[w - 1 - i];
+        sum = sum + d * power(&powers, w - 1 - i);
         i += 1;
     }
     sum
@@ -78,7 +79,7 @@ fn blanks_at(text: &[u8], at: usize, w: usize) -> usize
 {
     let mut i: usize = 0;
     while i < w {
-        if text[at + i] != 32 {
+        if text[at + i] != b' ' {
             return i;
         }
         i += 1;
@@ -86,58 +87,61 @@ fn blanks_at(text: &[u8], at: usize, w: usize) -> usize
     i
 }
 
-// Whether the w bytes from at on are all digits.
-fn all_digits(text: &[u8], at: usize, w: usize) -> bool
-    requires { ⌜ at + w ≤ length (now text) ⌝ }
-    ensures { λ r. ⌜ r ≡ allDigits (part (now (text .entry)) at w) ⌝ }
-{
-    let mut i: usize = 0;
-    while i < w {
-        if !is_digit(text[at + i]) {
-            return false;
-        }
-        i += 1;
-    }
-    true
-}
-
 fn is_digit(b: u8) -> bool
     ensures { λ r. ⌜ r ≡ isDigit b ⌝ }
 {
-    (48 <= b) & (b <= 57)
+    (b'0' <= b) & (b <= b'9')
 }
 
-// Whether the w bytes from at on are a number as written without blanks: "no leading zeros".
-fn is_numeral(text: &[u8], at: usize, w: usize) -> bool
-    requires { ⌜ at + w ≤ length (now text) ⌝ }
-    ensures { λ r. ⌜ r ≡ numeral (part (now (text .entry)) at w) ⌝ }
+// The number that the digits of the w bytes from at on make, formed where all of them are digits.
+fn run_of_digits(text: &[u8], at: usize, w: usize) -> Plain
+    requires { ⌜ (at + w ≤ length (now text)) × (w ≤ 19) ⌝ }
+    ensures { λ r. ⌜ (r .formed ≡ allDigits (part (now (text .entry)) at w)) × (r .number ≡ number (part (now (text .entry)) at w)) ⌝ }
 {
-    if w < 1 {
-        return false;
+    let mut formed = true;
+    let mut number = 0;
+    let mut i: usize = 0;
+    while i < w {
+        let b = text[at + i];
+        formed = formed & is_digit(b);
+        number = number * 10 + digit(b);
+        i += 1;
     }
-    if 19 < w {
-        return false;
-    }
-    ((w <= 1) | !(text[at] == 48)) & all_digits(text, at, w)
+    Plain { formed, number }
 }
 
-// Whether the w bytes from at on are blanks and then a number.
-fn is_plain(text: &[u8], at: usize, w: usize) -> bool
-    requires { ⌜ at + w ≤ length (now text) ⌝ }
-    ensures { λ r. ⌜ r ≡ scanned (part (now (text .entry)) at w) ⌝ }
+// "no leading zeros", of n digits from at on.
+fn leads_well(text: &[u8], at: usize, n: usize) -> bool
+    requires { ⌜ at + n ≤ length (now text) ⌝ }
+    ensures { λ r. ⌜ r ≡ (leb n 1 || not (eqb (getD (now (text .entry)) at 0) 48)) ⌝ }
 {
-    let k = blanks_at(text, at, w);
-    is_numeral(text, at + k, w - k)
+    if n <= 1 {
+        return true;
+    }
+    !(text[at] == b'0')
 }
 
-// The number in the w columns from at on, where the text holds them.
+// The number in the w columns from at on, where the text holds them: blanks, and then digits, nineteen at most.
 fn read_plain(text: &[u8], at: usize, w: usize) -> Plain
     requires { ⌜ at + w ≤ length (now text) ⌝ }
     ensures { λ r. ⌜ r ≡ readPlain (part (now (text .entry)) at w) ⌝ }
 {
-    let formed = is_plain(text, at, w);
-    let number = digits_at(text, at, w);
-    Plain { formed, number }
+    let k = blanks_at(text, at, w);
+    let n = w - k;
+    if 19 < n {
+        let number = digits_at(text, at, w);
+        return Plain {
+            formed: false,
+            number,
+        };
+    }
+    let run = run_of_digits(text, at + k, n);
+    let leads = leads_well(text, at + k, n);
+    let formed = (1 <= n) & (leads & run.formed);
+    Plain {
+        formed,
+        number: run.number,
+    }
 }
 
 // Whether the w bytes from at on are "-".
@@ -160,9 +164,10 @@ fn is_marked(text: &[u8], at: usize, w: usize, mark: u8, n: u64) -> bool
     requires { ⌜ (at + w ≤ length (now text)) × (n < 10 ^ 19) ⌝ }
     ensures { λ r. ⌜ r ≡ same (part (now (text .entry)) at w) (marked mark w n) ⌝ }
 {
+    let powers = POWERS;
     let mut i: usize = 0;
     while i < w {
-        if text[at + i] != byte_at(mark, n, w - 1 - i) {
+        if text[at + i] != byte_at(&powers, mark, n, w - 1 - i) {
             return false;
         }
         i += 1;

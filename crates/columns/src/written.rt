@@ -3,8 +3,10 @@ ghost use mathlib.Core.Path.{_≡_};
 ghost use Prim.Native.Nat.{_+_, _≤_, _<_, _^_};
 ghost use lib.ListN.{length};
 ghost use lib.Seq.{paste};
+ghost use Rattle.columns.specs.Powers.{powersOfTen};
 ghost use Rattle.columns.specs.Column.{pick, blank, byteAt, marked, dashed, fits as fitsOf, optionalFits, signedFits, plainPut, optionalPut, signedPut};
 use crate::bytes::holds;
+use crate::powers::POWERS;
 use crate::powers::power;
 
 // 10^19, past which no number is written: the table ends below it.
@@ -17,7 +19,8 @@ pub fn fits(w: usize, n: u64) -> bool
     if 19 <= w {
         return n < MOST;
     }
-    (1 <= w) & (n < power(w))
+    let powers = POWERS;
+    (1 <= w) & (n < power(&powers, w))
 }
 
 fn optional_fits(w: usize, present: bool, n: u64) -> bool
@@ -43,35 +46,35 @@ fn signed_fits(w: usize, below: bool, n: u64) -> bool
 }
 
 // Whether place k, counted from 0 at the right, is in front of the first digit of n.
-fn is_blank(n: u64, k: usize) -> bool
-    requires { ⌜ n < 10 ^ 19 ⌝ }
+fn is_blank(powers: &[u64; 19], n: u64, k: usize) -> bool
+    requires { ⌜ (now powers ≡ powersOfTen) × (n < 10 ^ 19) ⌝ }
     ensures { λ r. ⌜ r ≡ blank n k ⌝ }
 {
     if 18 < k {
         return true;
     }
-    (0 < k) & (n < power(k))
+    (0 < k) & (n < power(powers, k))
 }
 
 fn glyph(d: u64) -> u8
     requires { ⌜ d < 10 ⌝ }
     ensures { λ r. ⌜ r ≡ 48 + d ⌝ }
 {
-    48 + (d as u8)
+    b'0' + (d as u8)
 }
 
 // The byte of n at place k.
-pub(crate) fn byte_at(mark: u8, n: u64, k: usize) -> u8
-    requires { ⌜ n < 10 ^ 19 ⌝ }
+pub(crate) fn byte_at(powers: &[u64; 19], mark: u8, n: u64, k: usize) -> u8
+    requires { ⌜ (now powers ≡ powersOfTen) × (n < 10 ^ 19) ⌝ }
     ensures { λ r. ⌜ r ≡ byteAt mark n k ⌝ }
 {
-    if is_blank(n, k) {
-        if is_blank(n, k - 1) {
-            return 32;
+    if is_blank(powers, n, k) {
+        if is_blank(powers, n, k - 1) {
+            return b' ';
         }
         return mark;
     }
-    glyph(n / power(k) % 10)
+    glyph(n / power(powers, k) % 10)
 }
 
 // n right-justified into the w bytes from at on, with the mark directly before its first digit.
@@ -79,9 +82,10 @@ fn put_marked(out: &mut [u8], at: usize, w: usize, mark: u8, n: u64)
     requires { ⌜ (at + w ≤ length (now out)) × (n < 10 ^ 19) ⌝ }
     ensures { λ _. ⌜ now (out .exit) ≡ paste (now (out .entry)) at (marked mark w n) w ⌝ }
 {
+    let powers = POWERS;
     let mut i: usize = 0;
     while i < w {
-        out[at + i] = byte_at(mark, n, w - 1 - i);
+        out[at + i] = byte_at(&powers, mark, n, w - 1 - i);
         i += 1;
     }
 }
@@ -89,7 +93,7 @@ fn put_marked(out: &mut [u8], at: usize, w: usize, mark: u8, n: u64)
 pub(crate) fn mark_of(below: bool) -> u8
     ensures { λ r. ⌜ r ≡ pick below 45 32 ⌝ }
 {
-    if below { 45 } else { 32 }
+    if below { b'-' } else { b' ' }
 }
 
 // "-" into the w bytes from at on: a minus in the last, blanks before it.
@@ -114,7 +118,7 @@ pub fn put_plain(out: &mut [u8], at: usize, w: usize, n: u64)
     if !fits(w, n) {
         return;
     }
-    put_marked(out, at, w, 32, n);
+    put_marked(out, at, w, b' ', n);
 }
 
 // n, or "-" where it is missing.
@@ -128,7 +132,7 @@ pub fn put_optional(out: &mut [u8], at: usize, w: usize, present: bool, n: u64)
         return;
     }
     if present {
-        put_marked(out, at, w, 32, n);
+        put_marked(out, at, w, b' ', n);
         return;
     }
     put_dash(out, at, w);

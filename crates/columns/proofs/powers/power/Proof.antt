@@ -7,11 +7,11 @@ use Rattle.columns.proofs.powers.power.Tie as tie
 mul-result : tie.Need-mul-result
 mul-result c = search needs
 
-array-read-result : tie.Need-array-read-result
-array-read-result c = search needs
+element-copy-out-result : tie.Need-element-copy-out-result
+element-copy-out-result c = search needs
 
 returns : tie.Need-returns
-returns c = power-at (c .args .k) (search needs)
+returns c = rw (c .before .pre .0) (power-at (c .before .args .k) (c .before .pre .1))
 
 pub power-spec : {M : Type 1} → statement M
-power-spec = tie.close (tie.spec mul-result array-read-result returns)
+power-spec = tie.close (tie.spec mul-result element-copy-out-result returns)

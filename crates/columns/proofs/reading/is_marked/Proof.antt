@@ -1,6 +1,6 @@
 -- `columns::reading::is_marked` meets its contract. Assumes nothing.
 use Prim.Native.Nat.{_-_, _≤_}
-use mathlib.Core.Path.{_≡_, sym, _∙_}
+use mathlib.Core.Path.{_≡_, refl, sym, _∙_}
 use native.Mathlib.Omega.{arith}
 use lib.ListN.{drop}
 use Rattle.columns.specs.Column.{marked, same, part}
@@ -11,10 +11,10 @@ use Rattle.columns.proofs.reading.is_marked.Statement.{statement}
 use Rattle.columns.proofs.reading.is_marked.Tie as tie
 
 abbrev Inv-loop : tie.InvT-loop
-Inv-loop text at w mark n i₀ i = (i ≤ w) × (same (part text at w) (marked mark w n) ≡ same (drop i (part text at w)) (drop i (marked mark w n)))
+Inv-loop text at w mark n powers i₀ i = (i ≤ w) × (same (part text at w) (marked mark w n) ≡ same (drop i (part text at w)) (drop i (marked mark w n)))
 
 abbrev μ-loop : tie.MeasureT-loop
-μ-loop text at w mark n i₀ i = w - i
+μ-loop text at w mark n powers i₀ i = w - i
 
 loop-holds : tie.Need-loop-holds Inv-loop μ-loop
 loop-holds c = search needs
@@ -32,14 +32,14 @@ sub-byte-at-2 : tie.Need-sub-byte-at-2 Inv-loop μ-loop
 sub-byte-at-2 c = search needs
 
 byte-at-requires : tie.Need-byte-at-requires Inv-loop μ-loop
-byte-at-requires c κs = search needs
+byte-at-requires c κs = (refl, c .before .before .before .before .before .pre .1)
 
 returns : tie.Need-returns Inv-loop μ-loop
 returns c =
-    let a = c .before .before .before .before .before .before .args in
-    let l = c .before .before .before .before .loop in
-    let e = c .before .byte-at .ensures ∙ marked-at (a .mark) (a .w) (a .n) (l .i) (c .before .before .before .loop-test .taken) in
-    sym (l .inv .1 ∙ same-not (a .text .now) (marked (a .mark) (a .w) (a .n)) (a .at) (a .w) (l .i) (c .before .before .before .before .before .before .pre .0) (length-marked (a .mark) (a .w) (a .n)) (c .before .before .before .loop-test .taken) (λ f. c .if1 .taken (f ∙ sym e)))
+    let a = c .before .before .before .before .before .before .before .args in
+    let l = c .before .before .before .before .before .loop in
+    let e = c .before .byte-at .ensures ∙ marked-at (a .mark) (a .w) (a .n) (l .i) (c .before .before .before .before .loop-test .taken) in
+    sym (l .inv .1 ∙ same-not (a .text .now) (marked (a .mark) (a .w) (a .n)) (a .at) (a .w) (l .i) (c .before .before .before .before .before .before .before .pre .0) (length-marked (a .mark) (a .w) (a .n)) (c .before .before .before .before .loop-test .taken) (λ f. c .if1 .taken (f ∙ sym e)))
 
 add-i : tie.Need-add-i Inv-loop μ-loop
 add-i c = search needs
@@ -49,10 +49,10 @@ loop-less c = search needs
 
 loop-again : tie.Need-loop-again Inv-loop μ-loop
 loop-again c =
-    let a = c .before .before .before .before .before .before .args in
-    let l = c .before .before .before .before .loop in
-    let e = c .before .byte-at .ensures ∙ marked-at (a .mark) (a .w) (a .n) (l .i) (c .before .before .before .loop-test .taken) in
-    (omega arith, l .inv .1 ∙ same-on (a .text .now) (marked (a .mark) (a .w) (a .n)) (a .at) (a .w) (l .i) (c .before .before .before .before .before .before .pre .0) (length-marked (a .mark) (a .w) (a .n)) (c .before .before .before .loop-test .taken) (c .if1 .left ∙ e))
+    let a = c .before .before .before .before .before .before .before .args in
+    let l = c .before .before .before .before .before .loop in
+    let e = c .before .byte-at .ensures ∙ marked-at (a .mark) (a .w) (a .n) (l .i) (c .before .before .before .before .loop-test .taken) in
+    (omega arith, l .inv .1 ∙ same-on (a .text .now) (marked (a .mark) (a .w) (a .n)) (a .at) (a .w) (l .i) (c .before .before .before .before .before .before .before .pre .0) (length-marked (a .mark) (a .w) (a .n)) (c .before .before .before .before .loop-test .taken) (c .if1 .left ∙ e))
 
 returns-2 : tie.Need-returns-2 Inv-loop μ-loop
 returns-2 c =

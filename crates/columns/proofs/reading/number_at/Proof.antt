@@ -1,10 +1,9 @@
 -- `columns::reading::number_at` meets its contract. Assumes nothing.
 use Prim.Native.Nat.{_+_, _-_, _≤_}
-use mathlib.Core.Path.{_≡_}
+use mathlib.Core.Path.{_≡_, refl}
 use native.Mathlib.Omega.{arith}
-use lib.ListN.{drop, getD}
+use lib.ListN.{drop}
 use Rattle.columns.specs.Column.{number, part}
-use Rattle.columns.proofs.Table.{powers, power-at}
 use Rattle.columns.proofs.Steps.{sum-on, sum-fits, number-over}
 use borrow.Author.Needs.{needs}
 use Rattle.columns.proofs.reading.number_at.Statement.{statement}
@@ -28,31 +27,26 @@ shared-slice-read-digit c = search needs
 digit-requires : tie.Need-digit-requires Inv-loop μ-loop
 digit-requires c κs = search needs
 
-sub-sum : tie.Need-sub-sum Inv-loop μ-loop
-sub-sum c = search needs
+sub-power : tie.Need-sub-power Inv-loop μ-loop
+sub-power c = search needs
 
-sub-sum-2 : tie.Need-sub-sum-2 Inv-loop μ-loop
-sub-sum-2 c = search needs
+sub-power-2 : tie.Need-sub-power-2 Inv-loop μ-loop
+sub-power-2 c = search needs
+
+power-requires : tie.Need-power-requires Inv-loop μ-loop
+power-requires c κs = (refl, omega arith)
 
 mul-sum : tie.Need-mul-sum Inv-loop μ-loop
-mul-sum c = search needs
-
-array-read-sum : tie.Need-array-read-sum Inv-loop μ-loop
-array-read-sum c = search needs
-
-mul-sum-2 : tie.Need-mul-sum-2 Inv-loop μ-loop
-mul-sum-2 c =
-    let a = c .before .before .before .before .before .args in
-    let l = c .before .before .before .loop in
-    let k = a .w - 1 - l .i in
-    record { fits = omega (arith, sum-fits (a .text .now) (a .at) (a .w) (l .i) (l .sum) (c .digit .result) (getD powers k 0) (c .before .before .before .before .before .pre .0) (c .before .before .before .before .before .pre .1) (c .before .before .loop-test .taken) (l .inv .1) (c .digit .ensures) (power-at k (omega arith))) }
+mul-sum c =
+    let a = c .before .before .before .before .before .before .before .args in
+    let l = c .before .before .before .before .before .loop in
+    record { fits = omega (arith, sum-fits (a .text .now) (a .at) (a .w) (l .i) (l .sum) (c .before .before .digit .result) (c .power .result) (c .before .before .before .before .before .before .before .pre .0) (c .before .before .before .before .before .before .before .pre .1) (c .before .before .before .before .loop-test .taken) (l .inv .1) (c .before .before .digit .ensures) (c .power .ensures)) }
 
 add-sum : tie.Need-add-sum Inv-loop μ-loop
 add-sum c =
-    let a = c .before .before .before .before .before .args in
-    let l = c .before .before .before .loop in
-    let k = a .w - 1 - l .i in
-    record { fits = sum-fits (a .text .now) (a .at) (a .w) (l .i) (l .sum) (c .digit .result) (getD powers k 0) (c .before .before .before .before .before .pre .0) (c .before .before .before .before .before .pre .1) (c .before .before .loop-test .taken) (l .inv .1) (c .digit .ensures) (power-at k (omega arith)) }
+    let a = c .before .before .before .before .before .before .before .args in
+    let l = c .before .before .before .before .before .loop in
+    record { fits = sum-fits (a .text .now) (a .at) (a .w) (l .i) (l .sum) (c .before .before .digit .result) (c .power .result) (c .before .before .before .before .before .before .before .pre .0) (c .before .before .before .before .before .before .before .pre .1) (c .before .before .before .before .loop-test .taken) (l .inv .1) (c .before .before .digit .ensures) (c .power .ensures) }
 
 add-i : tie.Need-add-i Inv-loop μ-loop
 add-i c = search needs
@@ -62,10 +56,9 @@ loop-less c = search needs
 
 loop-again : tie.Need-loop-again Inv-loop μ-loop
 loop-again c =
-    let a = c .before .before .before .before .before .args in
-    let l = c .before .before .before .loop in
-    let k = a .w - 1 - l .i in
-    (omega arith, sum-on (a .text .now) (a .at) (a .w) (l .i) (l .sum) (c .digit .result) (getD powers k 0) (c .before .before .before .before .before .pre .0) (c .before .before .before .before .before .pre .1) (c .before .before .loop-test .taken) (l .inv .1) (c .digit .ensures) (power-at k (omega arith)))
+    let a = c .before .before .before .before .before .before .before .args in
+    let l = c .before .before .before .before .before .loop in
+    (omega arith, sum-on (a .text .now) (a .at) (a .w) (l .i) (l .sum) (c .before .before .digit .result) (c .power .result) (c .before .before .before .before .before .before .before .pre .0) (c .before .before .before .before .before .before .before .pre .1) (c .before .before .before .before .loop-test .taken) (l .inv .1) (c .before .before .digit .ensures) (c .power .ensures))
 
 returns : tie.Need-returns Inv-loop μ-loop
 returns c =
@@ -83,11 +76,10 @@ number-at-spec =
     add-digit
     shared-slice-read-digit
     digit-requires
-    sub-sum
-    sub-sum-2
+    sub-power
+    sub-power-2
+    power-requires
     mul-sum
-    array-read-sum
-    mul-sum-2
     add-sum
     add-i
     loop-less

@@ -3,7 +3,7 @@ use mathlib.Core.Path.{sym, _∙_}
 use lib.ListN.{length}
 use Rattle.columns.specs.Column.{holds, part}
 use Rattle.columns.specs.Pastes.{length-part, optional-read}
-use Rattle.columns.proofs.Room.{held, denied}
+use Rattle.columns.specs.Room.{held, denied}
 use Rattle.columns.proofs.Answers.{optional-short, optional-missing, optional-given}
 use borrow.Author.Needs.{needs}
 use Rattle.columns.proofs.reading.optional_at.Statement.{statement}

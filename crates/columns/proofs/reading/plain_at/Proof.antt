@@ -3,7 +3,7 @@ use mathlib.Core.Path.{sym, _∙_}
 use lib.ListN.{length}
 use Rattle.columns.specs.Column.{holds}
 use Rattle.columns.specs.Pastes.{plain-read}
-use Rattle.columns.proofs.Room.{held, denied}
+use Rattle.columns.specs.Room.{held, denied}
 use Rattle.columns.proofs.Answers.{plain-short}
 use borrow.Author.Needs.{needs}
 use Rattle.columns.proofs.reading.plain_at.Statement.{statement}

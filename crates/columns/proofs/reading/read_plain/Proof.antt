@@ -1,18 +1,52 @@
 -- `columns::reading::read_plain` meets its contract. Assumes nothing.
-use Rattle.columns.specs.Column.{part}
-use Rattle.columns.proofs.Answers.{plain-of}
+use Prim.Native.Nat.{_-_}
+use mathlib.Core.Path.{refl}
+use Rattle.columns.proofs.Answers.{plain-long, plain-run}
 use borrow.Author.Needs.{needs}
 use Rattle.columns.proofs.reading.read_plain.Statement.{statement}
 use Rattle.columns.proofs.reading.read_plain.Tie as tie
 
-is-plain-requires : tie.Need-is-plain-requires
-is-plain-requires c κs = search needs
+blanks-at-requires : tie.Need-blanks-at-requires
+blanks-at-requires c κs = search needs
+
+sub-n : tie.Need-sub-n
+sub-n c = search needs
 
 digits-at-requires : tie.Need-digits-at-requires
 digits-at-requires c κs = search needs
 
 returns : tie.Need-returns
-returns c = plain-of (part (c .before .before .before .args .text .now) (c .before .before .before .args .at) (c .before .before .before .args .w)) (c .before .is-plain .result) (c .digits-at .result) (c .before .is-plain .ensures) (c .digits-at .ensures)
+returns c =
+    let a = c .before .before .before .before .args in
+    plain-long (a .text .now) (a .at) (a .w) (c .before .before .blanks-at .result) (a .w - c .before .before .blanks-at .result) (c .before .before .before .before .pre) (c .before .before .blanks-at .ensures .0) (c .before .before .blanks-at .ensures .1) refl (c .digits-at .result) (c .before .if1 .taken) (c .digits-at .ensures)
+
+add-run-of-digits : tie.Need-add-run-of-digits
+add-run-of-digits c = search needs
+
+run-of-digits-requires : tie.Need-run-of-digits-requires
+run-of-digits-requires c κs = search needs
+
+add-leads-well : tie.Need-add-leads-well
+add-leads-well c = search needs
+
+leads-well-requires : tie.Need-leads-well-requires
+leads-well-requires c κs = search needs
+
+returns-2 : tie.Need-returns-2
+returns-2 c =
+    let a = c .before .before .before .before .before .before .args in
+    plain-run (a .text .now) (a .at) (a .w) (c .before .before .before .before .blanks-at .result) (a .w - c .before .before .before .before .blanks-at .result) (c .before .before .before .before .before .before .pre) (c .before .before .before .before .blanks-at .ensures .0) (c .before .before .before .before .blanks-at .ensures .1) refl (c .before .leads-well .result) (c .before .before .run-of-digits .result .formed) (c .before .before .run-of-digits .result .number) (c .before .before .before .if1 .left) (c .before .leads-well .ensures) (c .before .before .run-of-digits .ensures .0) (c .before .before .run-of-digits .ensures .1)
 
 pub read-plain-spec : {M : Type 1} → statement M
-read-plain-spec = tie.close (tie.spec is-plain-requires digits-at-requires returns)
+read-plain-spec =
+    tie.close
+    (tie.spec
+    blanks-at-requires
+    sub-n
+    digits-at-requires
+    returns
+    add-run-of-digits
+    run-of-digits-requires
+    add-leads-well
+    leads-well-requires
+    returns-2)

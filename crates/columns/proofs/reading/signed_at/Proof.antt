@@ -4,7 +4,7 @@ use lib.ListN.{length}
 use Rattle.columns.specs.Column.{holds, part}
 use Rattle.columns.specs.Laws.{digits-small}
 use Rattle.columns.specs.Pastes.{length-part, signed-read}
-use Rattle.columns.proofs.Room.{held, denied}
+use Rattle.columns.specs.Room.{held, denied}
 use Rattle.columns.proofs.Answers.{signed-short, signed-of}
 use borrow.Author.Needs.{needs}
 use Rattle.columns.proofs.reading.signed_at.Statement.{statement}

@@ -23,7 +23,7 @@ returns-2 : tie.Need-returns-2
 returns-2 c = sym (byte-mark (c .before .before .before .before .args .mark) (c .before .before .before .before .args .n) (c .before .before .before .before .args .k) (cc) (cc))
 
 power-requires : tie.Need-power-requires
-power-requires c κs = near (c .before .before .args .n) (c .before .before .args .k) (c .before .before .pre) (cc)
+power-requires c κs = (c .before .before .pre .0, near (c .before .before .args .n) (c .before .before .args .k) (c .before .before .pre .1) (cc))
 
 div-glyph : tie.Need-div-glyph
 div-glyph c = rw (c .power .ensures) (ten-pos (c .before .before .before .args .k))

@@ -12,7 +12,7 @@ power-requires : tie.Need-power-requires
 power-requires c κs = search needs
 
 returns-2 : tie.Need-returns-2
-returns-2 c = fits-near (c .before .before .args .w) (c .before .before .args .n) (c .power .result) (omega arith) (c .power .ensures)
+returns-2 c = fits-near (c .before .before .before .args .w) (c .before .before .before .args .n) (c .power .result) (omega arith) (c .power .ensures)
 
 pub fits-spec : {M : Type 1} → statement M
 fits-spec = tie.close (tie.spec returns power-requires returns-2)

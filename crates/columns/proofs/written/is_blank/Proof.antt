@@ -6,7 +6,7 @@ use Rattle.columns.proofs.written.is_blank.Statement.{statement}
 use Rattle.columns.proofs.written.is_blank.Tie as tie
 
 returns : tie.Need-returns
-returns c = sym (blank-far (c .before .args .n) (c .before .args .k) (c .before .pre) (c .if1 .taken))
+returns c = sym (blank-far (c .before .args .n) (c .before .args .k) (c .before .pre .1) (c .if1 .taken))
 
 power-requires : tie.Need-power-requires
 power-requires c κs = search needs

@@ -12,10 +12,10 @@ use Rattle.columns.proofs.written.put_marked.Statement.{statement}
 use Rattle.columns.proofs.written.put_marked.Tie as tie
 
 abbrev Inv-loop : tie.InvT-loop
-Inv-loop out₀ at w mark n i₀ out i = (i ≤ w) × (length out ≡ length out₀) × (out ≡ paste out₀ at (marked mark w n) i)
+Inv-loop out₀ at w mark n powers i₀ out i = (i ≤ w) × (length out ≡ length out₀) × (out ≡ paste out₀ at (marked mark w n) i)
 
 abbrev μ-loop : tie.MeasureT-loop
-μ-loop out₀ at w mark n i₀ out i = w - i
+μ-loop out₀ at w mark n powers i₀ out i = w - i
 
 loop-holds : tie.Need-loop-holds Inv-loop μ-loop
 loop-holds c = (omega arith, refl, paste-zero (c .before .args .out .now) (c .before .args .at) (marked (c .before .args .mark) (c .before .args .w) (c .before .args .n)))
@@ -27,7 +27,7 @@ sub-byte-at-2 : tie.Need-sub-byte-at-2 Inv-loop μ-loop
 sub-byte-at-2 c = search needs
 
 byte-at-requires : tie.Need-byte-at-requires Inv-loop μ-loop
-byte-at-requires c κs = search needs
+byte-at-requires c κs = (refl, c .before .before .before .before .pre .1)
 
 add-out : tie.Need-add-out Inv-loop μ-loop
 add-out c = search needs
@@ -43,9 +43,9 @@ loop-less c = search needs
 
 loop-again : tie.Need-loop-again Inv-loop μ-loop
 loop-again c =
-    let a = c .before .before .before .before .args in
-    let l = c .before .before .loop in
-    (omega arith, simp length-set (l .inv .1), put-on (l .out) (a .out .now) (marked (a .mark) (a .w) (a .n)) (a .at) (a .w) (l .i) (c .byte-at .result) (c .before .before .before .before .pre .0) (length-marked (a .mark) (a .w) (a .n)) (c .before .loop-test .taken) (l .inv .2) (c .byte-at .ensures ∙ marked-at (a .mark) (a .w) (a .n) (l .i) (c .before .loop-test .taken)))
+    let a = c .before .before .before .before .before .args in
+    let l = c .before .before .before .loop in
+    (omega arith, simp length-set (l .inv .1), put-on (l .out) (a .out .now) (marked (a .mark) (a .w) (a .n)) (a .at) (a .w) (l .i) (c .byte-at .result) (c .before .before .before .before .before .pre .0) (length-marked (a .mark) (a .w) (a .n)) (c .before .before .loop-test .taken) (l .inv .2) (c .byte-at .ensures ∙ marked-at (a .mark) (a .w) (a .n) (l .i) (c .before .before .loop-test .taken)))
 
 same-length : tie.Need-same-length Inv-loop μ-loop
 same-length c = search needs

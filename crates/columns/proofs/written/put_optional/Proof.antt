@@ -1,11 +1,12 @@
 -- `columns::written::put_optional` meets its contract. Assumes nothing.
-use mathlib.Core.Path.{ap, sym, _∙_}
-use mathlib.Core.Bool.{Bool}
+use mathlib.Core.Path.{sym}
 use lib.ListN.{length}
-use lib.Seq.{paste}
-use Rattle.columns.specs.Column.{holds, optionalText, optionalFits}
-use Rattle.columns.specs.Pastes.{optional-put, optional-kept}
-use Rattle.columns.proofs.Room.{told, held, unheld, unfit, optional-small}
+use mathlib.Core.Bool.{true, false}
+use Rattle.columns.specs.Column.{holds, optionalFits}
+use Rattle.columns.specs.Pastes.{optional-kept}
+use Rattle.columns.specs.Room.{told, held, unheld, unfit}
+use Rattle.columns.proofs.Room.{optional-small}
+use Rattle.columns.proofs.Puts.{optional-done}
 use borrow.Author.Needs.{needs}
 use Rattle.columns.proofs.written.put_optional.Statement.{statement}
 use Rattle.columns.proofs.written.put_optional.Tie as tie
@@ -37,9 +38,7 @@ same-length c = search needs
 returns-3 : tie.Need-returns-3
 returns-3 c =
     let a = c .before .before .before .before .before .before .before .before .before .before .args in
-    c .before .before .put-marked .ensures
-    ∙ ap (λ (p : Bool). paste (a .out .now) (a .at) (optionalText (a .w) p (a .n)) (a .w)) (sym (c .before .before .before .before .if3 .taken))
-    ∙ sym (optional-put (a .out .now) (a .at) (a .w) (a .present) (a .n) (held (length (a .out .now)) (a .at) (a .w) (c .before .before .before .before .before .before .before .before .holds .result) (c .before .before .before .before .before .before .before .before .holds .ensures) (c .before .before .before .before .before .before .before .if1 .left)) (told (c .before .before .before .before .before .before .optional-fits .result) (optionalFits (a .w) (a .present) (a .n)) (c .before .before .before .before .before .before .optional-fits .ensures) (c .before .before .before .before .before .if2 .left)))
+    optional-done (a .out .now) (c .before .before .put-marked .last .0) (a .at) (a .w) (a .n) (c .before .before .before .before .before .before .before .before .holds .result) (c .before .before .before .before .before .before .optional-fits .result) (c .before .before .before .before .before .before .before .before .holds .ensures) (c .before .before .before .before .before .before .before .if1 .left) (c .before .before .before .before .before .if2 .left) (a .present) true (c .before .before .before .before .before .before .optional-fits .ensures) (c .before .before .before .before .if3 .taken) (c .before .before .put-marked .ensures)
 
 put-dash-requires : tie.Need-put-dash-requires
 put-dash-requires c κs = held (length (c .before .before .before .before .before .before .before .args .out .now)) (c .before .before .before .before .before .before .before .args .at) (c .before .before .before .before .before .before .before .args .w) (c .before .before .before .before .before .holds .result) (c .before .before .before .before .before .holds .ensures) (c .before .before .before .before .if1 .left)
@@ -50,9 +49,7 @@ same-length-2 c = search needs
 returns-4 : tie.Need-returns-4
 returns-4 c =
     let a = c .before .before .before .before .before .before .before .before .before .before .args in
-    c .before .before .put-dash .ensures
-    ∙ ap (λ (p : Bool). paste (a .out .now) (a .at) (optionalText (a .w) p (a .n)) (a .w)) (sym (c .before .before .before .before .if3 .left))
-    ∙ sym (optional-put (a .out .now) (a .at) (a .w) (a .present) (a .n) (held (length (a .out .now)) (a .at) (a .w) (c .before .before .before .before .before .before .before .before .holds .result) (c .before .before .before .before .before .before .before .before .holds .ensures) (c .before .before .before .before .before .before .before .if1 .left)) (told (c .before .before .before .before .before .before .optional-fits .result) (optionalFits (a .w) (a .present) (a .n)) (c .before .before .before .before .before .before .optional-fits .ensures) (c .before .before .before .before .before .if2 .left)))
+    optional-done (a .out .now) (c .before .before .put-dash .last .0) (a .at) (a .w) (a .n) (c .before .before .before .before .before .before .before .before .holds .result) (c .before .before .before .before .before .before .optional-fits .result) (c .before .before .before .before .before .before .before .before .holds .ensures) (c .before .before .before .before .before .before .before .if1 .left) (c .before .before .before .before .before .if2 .left) (a .present) false (c .before .before .before .before .before .before .optional-fits .ensures) (c .before .before .before .before .if3 .left) (c .before .before .put-dash .ensures)
 
 pub put-optional-spec : {M : Type 1} → statement M
 put-optional-spec =

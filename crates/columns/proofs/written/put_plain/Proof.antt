@@ -1,10 +1,11 @@
 -- `columns::written::put_plain` meets its contract. Assumes nothing.
-use mathlib.Core.Path.{sym, _∙_}
+use mathlib.Core.Path.{sym}
 use lib.ListN.{length}
 use Rattle.columns.specs.Column.{holds, fits}
 use Rattle.columns.specs.Laws.{fits-small}
-use Rattle.columns.specs.Pastes.{plain-put, plain-kept}
-use Rattle.columns.proofs.Room.{told, held, unheld, unfit}
+use Rattle.columns.specs.Pastes.{plain-kept}
+use Rattle.columns.specs.Room.{told, held, unheld, unfit}
+use Rattle.columns.proofs.Puts.{plain-done}
 use borrow.Author.Needs.{needs}
 use Rattle.columns.proofs.written.put_plain.Statement.{statement}
 use Rattle.columns.proofs.written.put_plain.Tie as tie
@@ -36,8 +37,7 @@ same-length c = search needs
 returns-3 : tie.Need-returns-3
 returns-3 c =
     let a = c .before .before .before .before .before .before .before .before .before .args in
-    c .before .before .put-marked .ensures
-    ∙ sym (plain-put (a .out .now) (a .at) (a .w) (a .n) (held (length (a .out .now)) (a .at) (a .w) (c .before .before .before .before .before .before .before .holds .result) (c .before .before .before .before .before .before .before .holds .ensures) (c .before .before .before .before .before .before .if1 .left)) (told (c .before .before .before .before .before .fits2 .result) (fits (a .w) (a .n)) (c .before .before .before .before .before .fits2 .ensures) (c .before .before .before .before .if2 .left)))
+    plain-done (a .out .now) (c .before .before .put-marked .last .0) (a .at) (a .w) (a .n) (c .before .before .before .before .before .before .before .holds .result) (c .before .before .before .before .before .fits2 .result) (c .before .before .before .before .before .before .before .holds .ensures) (c .before .before .before .before .before .before .if1 .left) (c .before .before .before .before .if2 .left) (c .before .before .before .before .before .fits2 .ensures) (c .before .before .put-marked .ensures)
 
 pub put-plain-spec : {M : Type 1} → statement M
 put-plain-spec =

@@ -1,12 +1,11 @@
 -- `columns::written::put_signed` meets its contract. Assumes nothing.
-use Prim.Native.Nat.{ℕ}
-use mathlib.Core.Path.{ap, sym, _∙_}
+use mathlib.Core.Path.{sym}
 use lib.ListN.{length}
-use lib.Seq.{paste}
-use Rattle.columns.specs.Column.{holds, marked, signedFits}
+use Rattle.columns.specs.Column.{holds, signedFits}
 use Rattle.columns.specs.Laws.{signed-small}
-use Rattle.columns.specs.Pastes.{signed-put, signed-kept}
-use Rattle.columns.proofs.Room.{told, held, unheld, unfit}
+use Rattle.columns.specs.Pastes.{signed-kept}
+use Rattle.columns.specs.Room.{told, held, unheld, unfit}
+use Rattle.columns.proofs.Puts.{signed-done}
 use borrow.Author.Needs.{needs}
 use Rattle.columns.proofs.written.put_signed.Statement.{statement}
 use Rattle.columns.proofs.written.put_signed.Tie as tie
@@ -41,9 +40,7 @@ same-length c = search needs
 returns-3 : tie.Need-returns-3
 returns-3 c =
     let a = c .before .before .before .before .before .before .before .before .before .before .args in
-    c .before .before .put-marked .ensures
-    ∙ ap (λ (m : ℕ). paste (a .out .now) (a .at) (marked m (a .w) (a .size)) (a .w)) (c .before .before .before .mark-of .ensures)
-    ∙ sym (signed-put (a .out .now) (a .at) (a .w) (a .below) (a .size) (held (length (a .out .now)) (a .at) (a .w) (c .before .before .before .before .before .before .before .before .holds .result) (c .before .before .before .before .before .before .before .before .holds .ensures) (c .before .before .before .before .before .before .before .if1 .left)) (told (c .before .before .before .before .before .before .signed-fits .result) (signedFits (a .w) (a .below) (a .size)) (c .before .before .before .before .before .before .signed-fits .ensures) (c .before .before .before .before .before .if2 .left)))
+    signed-done (a .out .now) (c .before .before .put-marked .last .0) (a .at) (a .w) (a .size) (c .before .before .before .before .before .before .before .before .holds .result) (c .before .before .before .before .before .before .signed-fits .result) (c .before .before .before .before .before .before .before .before .holds .ensures) (c .before .before .before .before .before .before .before .if1 .left) (c .before .before .before .before .before .if2 .left) (a .below) (c .before .before .before .mark-of .result) (c .before .before .before .before .before .before .signed-fits .ensures) (c .before .before .before .mark-of .ensures) (c .before .before .put-marked .ensures)
 
 pub put-signed-spec : {M : Type 1} → statement M
 put-signed-spec =

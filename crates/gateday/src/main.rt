@@ -1,0 +1,114 @@
+// gateday: call lines from standard input, an answer for each on standard output, and at the end the listing. N is 2,048.
+// What is answered and listed is decided in `day` and `lister`; here is only reading and writing.
+ghost use Prim.Native.Nat.{_+_, _≤_};
+ghost use lib.ListN.{length};
+use day::answer_lines;
+use day::answer_rest;
+use day::keep_rest;
+use gate::opening::open;
+use lister::ROW_BYTES;
+use lister::write;
+use quota::asks::groups_enrolled;
+
+// The first n bytes, to standard output.
+fn print(bytes: &[u8], n: usize) {
+    if n <= bytes.len() {
+        io::write_all(libc::STDOUT_FILENO, &bytes[0..n]);
+    }
+}
+
+// One read into the buffer behind its first `filled` bytes. Answers how many bytes the buffer then has; no more than before at the input's end.
+fn read_behind(input: &mut [u8], filled: usize) -> usize
+    requires { ⌜ filled ≤ length (now input) ⌝ }
+    ensures { λ r. ⌜ (filled ≤ r) × (r ≤ length (now (input .entry))) ⌝ }
+{
+    let room = input.len();
+    let got = libc::read(libc::STDIN_FILENO, &mut input[filled..room]);
+    let came = io::count(got, &input[filled..room]);
+    filled + came
+}
+
+// The lines of the text from `from` on, as many as there is room for answers, answered and printed. Answers how many bytes they took.
+fn print_some(
+    register: &mut [u64],
+    book: &mut [u64],
+    places: &mut [u64],
+    text: &[u8],
+    from: usize,
+    out: &mut [u8],
+) -> usize
+    requires { ⌜ from ≤ length (now text) ⌝ }
+    ensures { λ r. ⌜ from + r ≤ length (now (text .entry)) ⌝ }
+{
+    let progress = answer_lines(register, book, places, &text[from..text.len()], out);
+    print(out, progress.written);
+    progress.used
+}
+
+// Every whole line of the text answered and printed. Answers how many bytes they took.
+fn print_lines(
+    register: &mut [u64],
+    book: &mut [u64],
+    places: &mut [u64],
+    text: &[u8],
+    out: &mut [u8],
+) -> usize
+    ensures { λ r. ⌜ r ≤ length (now (text .entry)) ⌝ }
+{
+    let mut from: usize = 0;
+    while from < text.len() {
+        let used = print_some(register, book, places, text, from, out);
+        if used < 1 {
+            return from;
+        }
+        from += used;
+    }
+    from
+}
+
+// "and at the end the listing": a line without line feed first, where one is left.
+fn print_end(register: &[u64], book: &[u64], places: &[u64], rest: usize, out: &mut [u8]) {
+    let n = answer_rest(rest, out);
+    print(out, n);
+    let refusal = write(register, book, places, out);
+    if refusal != 0 {
+        return;
+    }
+    let groups = groups_enrolled(register);
+    if groups <= 64 {
+        print(out, ROW_BYTES * (groups as usize));
+    }
+}
+
+// The whole input, line by line. A loop has to end, and nothing says that an input does: it counts its turns down from a number that no run
+// uses up.
+fn print_day(
+    register: &mut [u64],
+    book: &mut [u64],
+    places: &mut [u64],
+    input: &mut [u8],
+    out: &mut [u8],
+) {
+    let mut filled: usize = 0;
+    let mut turns = u64::MAX;
+    while turns > 0 {
+        let held = read_behind(input, filled);
+        if held <= filled {
+            print_end(register, book, places, filled, out);
+            return;
+        }
+        let used = print_lines(register, book, places, &input[0..held], out);
+        filled = keep_rest(input, used, held);
+        turns -= 1;
+    }
+}
+
+fn main() {
+    let mut register = [0u64; 1986];
+    let mut book = [0u64; 194];
+    let mut places = [0u64; 8192];
+    let mut input = io::large_buffer();
+    let mut out = [0u8; 65530];
+    open(&mut register, &mut book, &places);
+    print_day(&mut register, &mut book, &mut places, &mut input, &mut out);
+}

@@ -1,0 +1,4 @@
+pub mod Text
+pub mod RowLaws
+pub mod Laws
+pub mod Examples

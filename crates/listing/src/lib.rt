@@ -1,0 +1,5 @@
+// The listing ("Lines and columns"): the rows of groups as a text, 108 bytes a row, written and read. What each function means is in
+// specs/Text.antt, and the laws both ways in specs/Laws.antt. Every function that is open to outside is total.
+pub mod lines; // one row as a line
+pub mod texts; // a whole text
+pub mod reader; // the checked text and a position

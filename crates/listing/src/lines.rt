@@ -1,0 +1,167 @@
+// One row as a line of 108 bytes, written and read.
+ghost use mathlib.Core.Path.{_≡_};
+ghost use mathlib.Core.Bool.{true};
+ghost use Prim.Native.Nat.{_+_, _≤_};
+ghost use lib.ListN.{length};
+ghost use lib.Seq.{paste};
+ghost use Rattle.columns.specs.Column.{part};
+ghost use Rattle.rows.specs.Row.{rowKept};
+ghost use Rattle.listing.specs.Text.{limitPut, limitsPut, rowText, limitOf, rowIn, readLine, rowPut};
+use columns::bytes::put_text;
+use columns::bytes::same_at;
+use columns::reading::Optional;
+use columns::reading::optional_at;
+use columns::reading::plain_at;
+use columns::reading::signed_at;
+use columns::written::put_optional;
+use columns::written::put_plain;
+use columns::written::put_signed;
+use rows::Row;
+use rows::row_kept;
+use rules::kinds::Money;
+use rules::money::Millions;
+use rules::money::Mils;
+use rules::quotas::Limit;
+
+// "code 5 columns, class 2, maximum 8, own quota 8, net 21, open buys 21, bought 21, sold 21, line feed"
+pub const ROW: usize = 108;
+
+// What a line says: the row of its columns, and whether the line is that row's text and the row keeps its rules.
+pub struct Line {
+    pub good: bool,
+    pub row: Row,
+}
+
+// ---- written
+
+// A maximum or an own quota into 8 columns, "-" for none.
+fn put_limit(out: &mut [u8], at: usize, limit: Limit)
+    ensures { λ _. ⌜ now (out .exit) ≡ limitPut (now (out .entry)) at limit ⌝ }
+{
+    match limit {
+        Limit::Nothing => put_optional(out, at, 8, false, 0),
+        Limit::At(quota) => put_optional(out, at, 8, true, quota.0),
+    }
+}
+
+// The maximum, and behind it the own quota.
+fn put_limits(out: &mut [u8], at: usize, maximum: Limit, own: Limit)
+    requires { ⌜ at + 16 ≤ length (now out) ⌝ }
+    ensures { λ _. ⌜ now (out .exit) ≡ limitsPut (now (out .entry)) at maximum own ⌝ }
+{
+    put_limit(out, at, maximum);
+    put_limit(out, at + 8, own);
+}
+
+// The columns of a row that keeps its rules, so that each has room.
+fn write_row(out: &mut [u8], at: usize, row: Row)
+    requires { ⌜ (at + 108 ≤ length (now out)) × (rowKept row ≡ true) ⌝ }
+    ensures { λ _. ⌜ now (out .exit) ≡ paste (now (out .entry)) at (rowText row) 108 ⌝ }
+{
+    let maximum = row.maximum;
+    let own = row.own;
+    let net = row.net;
+    let money = row.money;
+    let open = money.open;
+    let bought = money.bought;
+    let sold = money.sold;
+    put_plain(out, at, 5, row.code);
+    put_plain(out, at + 5, 2, row.class);
+    put_limits(out, at + 7, maximum, own);
+    put_signed(out, at + 23, 21, row.below, net.0);
+    put_plain(out, at + 44, 21, open.0);
+    put_plain(out, at + 65, 21, bought.0);
+    put_plain(out, at + 86, 21, sold.0);
+    put_text(out, at + 107, b"\n");
+}
+
+// The row as a line from at on; nothing where it breaks its rules or has no room.
+pub fn put_row(out: &mut [u8], at: usize, row: Row)
+    ensures { λ _. ⌜ now (out .exit) ≡ rowPut (now (out .entry)) at row ⌝ }
+{
+    if !row_kept(row) {
+        return;
+    }
+    if out.len() < ROW {
+        return;
+    }
+    if out.len() - ROW < at {
+        return;
+    }
+    write_row(out, at, row);
+}
+
+// ---- read
+
+fn limit_of(column: Optional) -> Limit
+    ensures { λ r. ⌜ r ≡ limitOf column ⌝ }
+{
+    if column.present {
+        return Limit::At(Millions(column.number));
+    }
+    Limit::Nothing
+}
+
+// What a line says.
+pub fn read_line(line: &[u8]) -> Line
+    ensures { λ r. ⌜ r ≡ readLine (now (line .entry)) ⌝ }
+{
+    let code = plain_at(line, 0, 5);
+    let class = plain_at(line, 5, 2);
+    let maximum = optional_at(line, 7, 8);
+    let own = optional_at(line, 15, 8);
+    let net = signed_at(line, 23, 21);
+    let open = plain_at(line, 44, 21);
+    let bought = plain_at(line, 65, 21);
+    let sold = plain_at(line, 86, 21);
+    let ends = same_at(line, 107, b"\n");
+    let columns = code.formed & class.formed & maximum.formed & own.formed & net.formed;
+    let formed = columns & open.formed & bought.formed & sold.formed & ends;
+    let money = Money {
+        open: Mils(open.number),
+        bought: Mils(bought.number),
+        sold: Mils(sold.number),
+    };
+    let row = Row {
+        code: code.number,
+        class: class.number,
+        maximum: limit_of(maximum),
+        own: limit_of(own),
+        money: money,
+        below: net.below,
+        net: Mils(net.size),
+    };
+    let good = (line.len() == ROW) & (formed & row_kept(row));
+    Line { good, row }
+}
+
+// What the line from at on says.
+pub(crate) fn line_at(text: &[u8], at: usize) -> Line
+    requires { ⌜ at + 108 ≤ length (now text) ⌝ }
+    ensures { λ r. ⌜ r ≡ readLine (part (now (text .entry)) at 108) ⌝ }
+{
+    let end = at + ROW;
+    let line = &text[at..end];
+    read_line(line)
+}
+
+// Its code alone, and its class alone.
+pub(crate) fn code_at(text: &[u8], at: usize) -> u64
+    requires { ⌜ at + 108 ≤ length (now text) ⌝ }
+    ensures { λ r. ⌜ r ≡ (rowIn (part (now (text .entry)) at 108)) .code ⌝ }
+{
+    let end = at + ROW;
+    let line = &text[at..end];
+    let code = plain_at(line, 0, 5);
+    code.number
+}
+
+pub(crate) fn class_at(text: &[u8], at: usize) -> u64
+    requires { ⌜ at + 108 ≤ length (now text) ⌝ }
+    ensures { λ r. ⌜ r ≡ (rowIn (part (now (text .entry)) at 108)) .class ⌝ }
+{
+    let end = at + ROW;
+    let line = &text[at..end];
+    let class = plain_at(line, 5, 2);
+    class.number
+}
