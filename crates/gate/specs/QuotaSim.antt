@@ -40,7 +40,7 @@ use Rattle.quota.specs.Reads.{groupReads, figureReads}
 use Rattle.quota.specs.Calls.{checked, enrolRefusal, enrolAfter, attachRefusal, attachAfter, detachRefusal, detachAfter, regularRefusal, regularAfter, raiseRefusal, raiseAfter, withdrawRefusal, withdrawAfter, ownQuotaRefusal, ownQuotaAfter, closeRefusal, closeAfter}
 use Rattle.quota.specs.Asks.{isSound, groupsEnrolled, isAttached, groupOfUnit, ownInForce}
 use Rattle.quota.specs.Kept.{Holds, enrol-holds, attach-reads, attach-holds, detach-holds, regular-reads, regular-holds, regular-standing, raise-reads, raise-holds, withdraw-reads, withdraw-holds, own-quota-reads, own-quota-holds, close-holds, sum-standing}
-use Rattle.quota.specs.Rows.{Proper, fresh-proper, declared-proper, raised-proper, filed-proper, own-proper, closed-proper, Distinct, distinct-none, distinct-add, distinct-set, distinct-closed, enrol-free}
+use Rattle.quota.specs.Rows.{Proper, fresh-proper, declared-proper, raised-proper, filed-proper, own-proper, closed-proper, Distinct, distinct-none, distinct-add, distinct-set, distinct-closed, enrol-controlled, enrol-free}
 use Rattle.gate.specs.Relation.{viewOf, QuotaSim}
 use Rattle.gate.specs.QuotaViews.{map-at, map-last, map-set, map-both, Each, each-last, each-set, each-map, taken-viewed}
 
@@ -263,7 +263,7 @@ module _ (h : History) (rs : List ℕ) (s : QuotaSim h rs) where
       holds-kept (accept h (Enrol code class)) (enrolAfter rs code class) (groupsOf rs ++ (f ∷ [])) (unitsOf rs) (enrol-holds rs code class e)
       (map-last viewOf (groupsOf rs) f ∙ rw (s .groups, standing-none))
       (s .units)
-      (each-last Proper (groupsOf rs) f each-proper (fresh-proper code class))
+      (each-last Proper (groupsOf rs) f each-proper (fresh-proper code class (enrol-controlled rs code class e)))
       (distinct-add (groupsOf rs) f (s .distinct) (enrol-free rs code class e))
 
   pub attach-kept : (unit group : ℕ) → attachRefusal rs unit group ≡ 0 → QuotaSim (accept h (Attach unit group)) (attachAfter rs unit group)

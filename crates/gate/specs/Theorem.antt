@@ -312,7 +312,7 @@ opened-sim rs bs ps e =
 
 -- ---- what the simulation gives
 
-row-is : (N : ℕ) (h : History) (m : Memory) → Sim N h m → (g : ℕ) → g < length (h .groups) → RowIs h m g
+pub row-is : (N : ℕ) (h : History) (m : Memory) → Sim N h m → (g : ℕ) → g < length (h .groups) → RowIs h m g
 unfolding asks.ownInForce
 row-is N h m s g l =
     let c = quotas.group-counts h (m .register) (s .quota) in

@@ -6,8 +6,8 @@ use day::answer_lines;
 use day::answer_rest;
 use day::keep_rest;
 use gate::opening::open;
-use lister::ROW_BYTES;
 use lister::write;
+use listing::lines::ROW;
 use quota::asks::groups_enrolled;
 
 // The first n bytes, to standard output.
@@ -76,7 +76,7 @@ fn print_end(register: &[u64], book: &[u64], places: &[u64], rest: usize, out: &
     }
     let groups = groups_enrolled(register);
     if groups <= 64 {
-        print(out, ROW_BYTES * (groups as usize));
+        print(out, ROW * (groups as usize));
     }
 }
 

@@ -1,1 +1,3 @@
 pub mod Listed
+pub mod Claim
+pub mod Claimed

@@ -6,6 +6,7 @@ ghost use lib.ListN.{length};
 ghost use lib.Seq.{paste};
 ghost use Rattle.listing.specs.Text.{listingText, fresh, rowsKept};
 ghost use Rattle.lister.specs.Listed.{rowsOn, listRefusal, listed};
+use listing::lines::ROW;
 use listing::lines::put_row;
 use orders::host::host_ok;
 use quota::asks::groups_enrolled;
@@ -14,9 +15,6 @@ use rows::row_at;
 use rows::row_kept;
 use rules::refusals::SHORT_BUFFER;
 use rules::refusals::UNSOUND;
-
-// "108 bytes a group"
-pub const ROW_BYTES: usize = 108;
 
 // Whether none of the rows of groups from to n − 1 has this row's code with its class.
 fn is_fresh(register: &[u64], book: &[u64], row: Row, from: u64, n: u64) -> bool
@@ -66,7 +64,7 @@ fn refusal_of_listing(register: &[u64], book: &[u64], places: &[u64], room: usiz
     if !rows_kept(register, book, n) {
         return UNSOUND;
     }
-    if room < ROW_BYTES * (n as usize) {
+    if room < ROW * (n as usize) {
         return SHORT_BUFFER;
     }
     0
@@ -81,7 +79,7 @@ fn put_rows(register: &[u64], book: &[u64], n: u64, buffer: &mut [u8])
     while i < n {
         let read = row_at(register, book, i);
         let row = read.row;
-        put_row(buffer, ROW_BYTES * (i as usize), row);
+        put_row(buffer, ROW * (i as usize), row);
         i += 1;
     }
 }
