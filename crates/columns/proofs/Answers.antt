@@ -7,7 +7,8 @@ use native.Mathlib.Omega.{arith}
 use borrow.Author.Tests.{leb-true, le-leb, lt-leb}
 use lib.Dec.{eqb, leb}
 use lib.ListN.{length, getD, drop}
-use Rattle.columns.specs.Column.{pick, marked, dashed, number as numberOf, digits, same, minus, readPlain, readOptional, readSigned, part, holds, plainAt, optionalAt, signedAt, sameAt}
+use Rattle.rules.specs.Tests.{pick}
+use Rattle.columns.specs.Column.{marked, dashed, number as numberOf, digits, same, minus, readPlain, readOptional, readSigned, part, holds, plainAt, optionalAt, signedAt, sameAt}
 use Rattle.columns.specs.Scan.{blanks, allDigits}
 use Rattle.columns.specs.Pastes.{length-part, getD-part}
 use Rattle.columns.specs.declared.reading.Plain.{Plain}

@@ -5,7 +5,8 @@ use mathlib.Core.Bool.{Bool, false, not}
 use mathlib.Core.List.{List}
 use lib.ListN.{length}
 use lib.Seq.{paste}
-use Rattle.columns.specs.Column.{pick, marked, column, optionalText, holds, fits, optionalFits, signedFits, plainPut, optionalPut, signedPut}
+use Rattle.rules.specs.Tests.{pick}
+use Rattle.columns.specs.Column.{marked, column, optionalText, holds, fits, optionalFits, signedFits, plainPut, optionalPut, signedPut}
 use Rattle.columns.specs.Pastes.{plain-put, optional-put, signed-put}
 use Rattle.columns.specs.Room.{told, held}
 

@@ -6,14 +6,10 @@ use mathlib.Core.List.{List, [], _∷_}
 use lib.Dec.{eqb, leb, ltb}
 use lib.ListN.{length, take, drop}
 use lib.Seq.{paste}
+use Rattle.rules.specs.Tests.{pick}
 use Rattle.columns.specs.declared.reading.Plain.{Plain}
 use Rattle.columns.specs.declared.reading.Optional.{Optional}
 use Rattle.columns.specs.declared.reading.Signed.{Signed}
-
--- the first where the test holds, else the second
-abbrev pub pick {ℓ} : {A : Type ℓ} → Bool → A → A → A
-pick true a b = a
-pick false a b = b
 
 -- ---- what is written
 

@@ -239,7 +239,7 @@ module _ (N : ℕ) (rule : Rule) (h : History) (m : Memory) (s : Sim N h m) wher
         });
       }
 
-  steps : (c : Call) → Steps N rule h m c
+  pub steps : (c : Call) → Steps N rule h m c
   steps (Enrol code class) = enrol-steps code class
   steps (Attach unit group) = attach-steps unit group
   steps (Detach unit) = detach-steps unit

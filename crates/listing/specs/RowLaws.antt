@@ -13,7 +13,7 @@ use Rattle.rules.specs.Limits.{topQuota, topMoney}
 use Rattle.rules.specs.declared.quotas.Limit.{Limit}
 use Rattle.rules.specs.declared.quotas.Limit.the-variants.{Nothing, At}
 use Rattle.rules.specs.Money.{millions}
-use Rattle.columns.specs.Column.{pick as number-or, marked, column, dashed, optionalText, signedText, fits, optionalFits, signedFits, same, readPlain, readOptional, readSigned, part, plainAt, optionalAt, signedAt, sameAt}
+use Rattle.columns.specs.Column.{marked, column, dashed, optionalText, signedText, fits, optionalFits, signedFits, same, readPlain, readOptional, readSigned, part, plainAt, optionalAt, signedAt, sameAt}
 use Rattle.columns.specs.Laws.{true-fits, plain-back, plain-only, optional-back, optional-only, signed-back, signed-only, same-refl, same-true}
 use Rattle.columns.specs.Pastes.{length-part, plain-read, optional-read, signed-read}
 use Rattle.columns.specs.declared.reading.Plain.{Plain}
@@ -120,7 +120,7 @@ module _ (t : List ℕ) (at w : ℕ) (h : at + w ≤ length t) where
       let o = optional-read t at w h ∙ ap readOptional e ∙ optional-back w (isSet limit) (millionsIn limit) f in
       (ap (λ (x : Optional). x .formed) o, ap limitOf o ∙ same-limit limit)
     where
-      same-limit : (l : Limit) → limitOf (record { formed = true; present = isSet l; number = number-or (isSet l) (millionsIn l) 0 }) ≡ l
+      same-limit : (l : Limit) → limitOf (record { formed = true; present = isSet l; number = pick (isSet l) (millionsIn l) 0 }) ≡ l
       same-limit Nothing = refl
       same-limit (At q) = refl
 

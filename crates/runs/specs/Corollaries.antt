@@ -1,14 +1,21 @@
 -- What a run leaves after an opening, by its contract and the third demand. Assumes nothing.
 use Prim.Native.Nat.{ℕ}
-use mathlib.Core.Path.{_≡_, ap, _∙_}
+use mathlib.Core.Path.{_≡_, refl, ap, _∙_}
 use mathlib.Core.List.{List}
 use Rattle.rules.specs.Orders.{shanghai}
+use Rattle.rules.specs.Lists.{detachRules}
 use Rattle.rules.specs.Laws.{where-accepted}
-use Rattle.history.specs.Past.{atOpening}
-use Rattle.history.specs.Runs.{answers}
+use Rattle.rules.specs.Calls.{refused}
+use Rattle.rules.specs.Codes.{noCall}
+use Rattle.rules.specs.Refusals.{OUT-OF-RANGE}
+use Rattle.rules.specs.declared.calls.Call.{Call}
+use Rattle.history.specs.Past.{History, atOpening}
+use Rattle.history.specs.Answers.{refusals, answer}
+use Rattle.history.specs.Runs.{after, answers}
+use Rattle.gate.specs.Step.{step}
 use Rattle.gate.specs.Opening.{placesLent, openRefusal}
 use Rattle.gate.specs.Demand.{run, answersOf, opened}
-use Rattle.gate.specs.Theorem.{demand}
+use Rattle.gate.specs.Theorem.{run-sim, opened-sim, steps, demand}
 use Rattle.runs.specs.Runs.{callsOf, answerWords, runRefusal, runMemory, runAnswers}
 
 -- What `runs::run` leaves after an opening, by its contract and the third demand: in the room for the answers, word for word, the
@@ -25,3 +32,14 @@ pub run-memory-as-claimed : (rs bs ps ws out : List ℕ) → runRefusal ws out �
     → runMemory (opened rs bs ps) ws out ≡ run shanghai (opened rs bs ps) (callsOf ws)
 unfolding runMemory
 run-memory-as-claimed rs bs ps ws out r = where-accepted (run shanghai (opened rs bs ps) (callsOf ws)) (opened rs bs ps) (runRefusal ws out) r
+
+-- a code that is no call's is answered 2 by the history
+no-call-answer : (N : ℕ) (h : History) → answer N shanghai h noCall ≡ refused OUT-OF-RANGE
+unfolding answer refusals detachRules
+no-call-answer N h = refl
+
+-- and so by a gate that calls from a fresh one led to
+pub unknown-code : (rs bs ps : List ℕ) → openRefusal rs bs ps ≡ 0 → (cs : List Call) → (step shanghai (run shanghai (opened rs bs ps) cs) noCall) .answer ≡ refused OUT-OF-RANGE
+unknown-code rs bs ps o cs =
+    steps (placesLent ps) shanghai (after (placesLent ps) shanghai atOpening cs) (run shanghai (opened rs bs ps) cs) (run-sim (placesLent ps) shanghai cs atOpening (opened rs bs ps) (opened-sim rs bs ps o)) noCall .same
+    ∙ no-call-answer (placesLent ps) (after (placesLent ps) shanghai atOpening cs)

@@ -1,7 +1,8 @@
 -- `columns::reading::digit` meets its contract. Assumes nothing.
 use borrow.Author.Tests.{leb-true}
 use lib.Dec.{leb}
-use Rattle.columns.specs.Laws.{both}
+use Rattle.rules.specs.Tests.{both}
+use Rattle.columns.specs.Laws.{}
 use borrow.Author.Needs.{needs}
 use Rattle.columns.proofs.reading.digit.Statement.{statement}
 use Rattle.columns.proofs.reading.digit.Tie as tie
