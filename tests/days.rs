@@ -237,7 +237,8 @@ impl Day {
     // ------------------------------------------------------------ acts: calls with drawn fields
 
     fn act_enrol(&mut self) {
-        let code = if self.draws.one_in(20) { self.draws.of(&[0, 99_999, 100_000, 999_999_999]) } else { self.draws.within(0, self.group_codes) };
+        let odd = self.draws.of(&[0, 99_999, 100_000, 999_999_999]);
+        let code = if self.draws.one_in(20) { odd } else { self.draws.within(0, self.group_codes) };
         let class = self.draws.of(&[1, 1, 1, 3, 3, 3, 4, 4, 4, 4, 2, 0, 5]);
         self.enrol(code, class);
     }
@@ -514,7 +515,10 @@ impl Day {
             2 => [unit, group, 0, 0],
             3 => [unit, 0, 0, 0],
             4 => [declarer, group, base, self.draws.of(&[due, due, base, due + 1, 0, 10_000_000])],
-            5 => [declarer, group, self.draws.of(&[0, maximum, maximum, maximum + 1, 100_000, 100_001, 10_000_000]), self.draws.of(&[0, 0, 1, 1, 2])],
+            5 => {
+                let quota = self.draws.of(&[0, maximum, maximum, maximum + 1, 100_000, 100_001, 10_000_000]);
+                [declarer, group, quota, self.draws.of(&[0, 0, 1, 1, 2])]
+            }
             6 => [declarer, group, 0, 0],
             7 => [group, self.draws.of(&[0, maximum, maximum + 1, 9_999_999, 10_000_000]), 0, 0],
             8 => [unit, kind, drawn_price, self.draws.of(&[1, 1, 1, 10_000_000, 0, 10_000_001])],
@@ -576,7 +580,10 @@ impl Day {
                     line.extend_from_slice(b"        0");
                 }
             }
-            20 => line.extend(std::iter::repeat(b' ').take(self.draws.below(5_000))),
+            20 => {
+                let length = self.draws.of(&[40, 5_000, 5_000, 200_000]);
+                line.extend(std::iter::repeat(self.draws.of(b" 0\0")).take(self.draws.below(length) + 1));
+            }
             21 => line = (0..self.draws.below(90)).map(|_| (self.draws.next() % 256) as u8).filter(|b| *b != b'\n').collect(),
             22 => line = line.iter().flat_map(|b| [*b, 0]).collect(),
             _ => line = line.repeat(2),
@@ -670,7 +677,7 @@ fn day(seed: u64) -> Vec<u8> {
         repo: false,
         large: false,
     };
-    // weights:      enrol attach detach regular raise file own order fill cancel close malformed approach crowd emergency own-quota confused
+    // weights: enrol attach detach regular raise file own, order fill cancel close malformed, approach crowd emergency own-quota confused
     match kind {
         0 => {
             day.bases = day.draws.of(&[9, 50, 3_000]);
@@ -692,7 +699,7 @@ fn day(seed: u64) -> Vec<u8> {
         4 => {
             day.unit_codes = 400;
             day.group_codes = 99_999;
-            let (groups, units) = (62 + day.draws.below(4), 250 + day.draws.below(9));
+            let (groups, units) = (day.draws.of(&[20, 62, 63, 64, 65]), 250 + day.draws.below(9));
             for _ in 0..groups {
                 let (code, class) = (day.draws.within(0, 99_999), day.draws.of(&[1, 3, 4]));
                 day.enrol(code, class);
@@ -736,6 +743,23 @@ fn day(seed: u64) -> Vec<u8> {
                 day.raise(declarer, group, TOP_QUOTA, 1);
             }
             day.acts(500, &[0, 1, 0, 2, 1, 0, 1, 60, 30, 3, 0, 0, 2, 0, 0, 0, 1]);
+            // every place with the largest amount, all filled: the most that gateday can list
+            if day.draws.one_in(4) {
+                day.close();
+                let share = day.draws.of(&[1, 2, 2, 1_000]); // one order in so many is a sell
+                let (unit, group) = day.units[0];
+                let declarer = day.groups[group].emergency.map_or(day.groups[group].code, |e| e.0);
+                day.raise(declarer, group, TOP_QUOTA, 1);
+                day.own(group, TOP_QUOTA);
+                for _ in 0..2_048 {
+                    let kind = if day.draws.one_in(share) { 4 } else { 1 };
+                    let quantity = TOP_QUANTITY - day.draws.of(&[0, 0, 1]);
+                    let orders = day.orders.len();
+                    day.order(unit, kind, TOP_PRICE, quantity);
+                    if day.orders.len() > orders { day.fill(orders + 1, TOP_PRICE, quantity); }
+                }
+                day.acts(20, &[0, 0, 0, 0, 0, 0, 1, 60, 30, 3, 0, 0, 2, 0, 0, 0, 1]);
+            }
         }
         7 => {
             day.morning(2);

@@ -3,147 +3,18 @@
 // Net is Article 16's own sum, never open + bought − sold, so that a listing compares the two.
 //
 //   model < FILE             the model
-//   model --wrong K < FILE   the model with one rule changed, the K-th of `slips!` below (`tests/compare-wrong`)
-//   model --slips            the changed rules, a line each: number and sentence
+//   model --wrong K < FILE   the model with one rule changed (`tests/compare-wrong`)
+//   model --slips            the changed rules, a line each: number K and sentence
 //
-// `but(right, Slip, wrong)` is `right`, unless the model runs with that slip. Read the first argument and pass over the others.
+// Changed rules are the slips of `slips!` below, two refusals in the wrong order (SWAPS), and a range one too short or too long at one
+// end. `but(right, Slip, wrong)` is `right`, unless the model runs with that slip: read the first argument and pass over the others.
 
 use std::io::{Read, Write};
 use std::sync::OnceLock;
-
-type Int = i128;
-
-macro_rules! slips {
-    ($($name:ident: $says:literal;)*) => {
-        #[derive(Clone, Copy, PartialEq)]
-        enum Slip { $($name),* }
-        const SLIPS: &[(Slip, &str)] = &[$((Slip::$name, $says)),*];
-    };
-}
-
-slips! {
-    // net, orders, fills and cancels
-    CrossingRefused: "16 when net plus the order's amount is above the own quota";
-    ExactPasses: "16 only when net is above the own quota";
-    SellCountedEntered: "a sell counts when entered";
-    CancelAtFillPrice: "a cancelled rest is valued at the last fill's price";
-    ImprovementIgnored: "a better fill price gives nothing back to net";
-    SoldLeftOut: "net doesn't fall by what is sold";
-    SellsStopped: "16 stops sells as well";
-    SellsNeedMaximum: "15 stops sells as well";
-    LendingIsASell: "repo lending is no buy";
-    BorrowingIsABuy: "repo borrowing is a buy";
-    RepoPriceFree: "a repo order may bear any price";
-    RepoFillFree: "a repo fill may bear any price";
-    RepoFillOutOfRange: "a repo fill at another price gets 2";
-    MarketSellPriced: "a market sell may bear a price";
-    SellFillTurned: "20 for a limit sell filled above its price";
-    BuyFillTurned: "20 for a buy filled below its price";
-    MarketBuyFillFree: "a market buy may fill at any price";
-    MarketSellFillFree: "a market sell may fill at price 0";
-    EqualFillIsWorse: "20 for a fill at the order's own price";
-    SeventeenEarly: "17 one order too early";
-    SeventeenLate: "17 one order too late";
-    SeventeenFirst: "17 comes before 16";
-    SellsTakeNoPlace: "17 doesn't stop sells";
-    NumbersContinue: "order numbers continue after the close";
-    NumberZeroUnknown: "order number 0 gets 18";
-    NumberAbovePlaces: "an order number above N gets 2";
-    NumberTopShort: "order number 65,536 gets 2";
-    EmptyCancelPasses: "a cancel with nothing open passes";
-    CancelledMayFill: "a cancelled order may still be filled";
-    WholeQuantityFills: "19 compares with the order's whole quantity";
-    ExactFillRefused: "19 for a fill of all that is open";
-    WorseFirst: "20 comes before 19";
-    LaterFillsDropped: "only an order's first fill is booked";
-    CancelTakesWhole: "a cancel takes the whole order, fills included, off net";
-    DetachEndsOrders: "detaching a unit ends its orders";
-    OrdersFollowUnit: "an order belongs to the group its unit is attached to now";
-    CloseKeepsMoney: "the close leaves the totals";
-    PriceTopShort: "price 9,999,999 gets 2";
-    QuantityTopShort: "quantity 10,000,000 gets 2";
-    // groups, units and quotas
-    RoundHalfDown: "base × 2.5 is rounded half down";
-    ClassThreeTimes: "base × 2.5 for class 3";
-    ClassOneOnce: "class 1: the quota equals the base";
-    FlagAtThreshold: "flag 1 is due at the threshold itself";
-    FlagUnread: "13 never";
-    WithdrawnStaysZero: "a withdrawn figure stays as 0";
-    FilingAtOnce: "a filed withdrawal takes effect at once";
-    RegularAtOnce: "a regular figure takes effect at once";
-    RegularOverEmergency: "at the close the standing figures replace a held emergency maximum";
-    GreaterAtClose: "at the close the greater of emergency figure and standing figures";
-    SumNotCapped: "the sum of figures is not held to the threshold";
-    EmergencyCapped: "the close holds an emergency maximum to the threshold";
-    CloseForgetsFiling: "the close forgets the filing and the emergency stays held";
-    EmergencyForOneDay: "the close ends an emergency without a filing";
-    OwnRestored: "a lowered own quota rises again with the maximum";
-    OwnNotLowered: "the close doesn't lower an own quota";
-    OwnSurvivesNone: "a maximum of none leaves the declared own quota";
-    OwnEqualFollows: "an own quota declared equal to the maximum counts as undeclared";
-    OwnZeroUndeclared: "own quota 0 withdraws the declaration";
-    OwnStaysAtRaise: "an undeclared own quota doesn't follow an emergency raise";
-    OwnAtMaximumRefused: "14 for an own quota equal to the maximum";
-    OwnWithoutMaximum: "14, and not 15, where the maximum is none";
-    NinthReplaces: "a ninth declarer replaces the first";
-    EighthRefused: "10 while seven stand";
-    StandingRefused: "10 for a declarer that stands, too";
-    PlaceNotFreed: "a withdrawn declarer's place is not used again";
-    FiguresAdd: "a declarer's new figure is added to the old one";
-    OthersMayRaise: "another declarer may raise with no withdrawal filed";
-    OthersMayFile: "another declarer may file the withdrawal";
-    FilingNotVoided: "a raise after a filing doesn't void it";
-    OnlyHolderRaises: "after a filing only the holder may raise again";
-    HolderNoSecondRaise: "11 for the holder's own second raise";
-    HolderStays: "a raise by another declarer leaves the first as holder";
-    FiledTwice: "a withdrawal may be filed twice";
-    EqualRaisePasses: "12 only for a raise below the maximum in force";
-    RaiseNeedsMaximum: "12 where the maximum is none";
-    LateFilingIsEleven: "another declarer after a filing gets 11 at call 6";
-    TenBeforeNine: "10 comes before 9";
-    EightBeforeSeven: "8 comes before 7";
-    ThirteenBeforeTwelve: "13 comes before 12";
-    TwelveBeforeEleven: "12 comes before 11";
-    AnyFirmRaises: "7 for regular figures alone";
-    ZeroWithdrawsWithQuota: "base 0 with any quota withdraws";
-    SevenForClassFour: "7 for class 4 as well";
-    ClassTwoEnrols: "class 2 is enrolled";
-    ClassTwoOutOfRange: "class 2 gets 2";
-    GroupByCodeAlone: "4 for the same code with another class";
-    SixBeforeFour: "6 comes before 4 and 5";
-    FiveBeforeFour: "5 comes before 4";
-    UnitsShort: "5 at 255 units";
-    GroupsShort: "5 at 63 groups";
-    DetachKeepsSeat: "a detached unit still counts among the 256";
-    AttachMoves: "attaching an attached unit moves it";
-    GroupAboveUnknown: "a group number above 63 gets 6";
-    // lines and columns
-    LastLineCarried: "a last line without line feed is carried out";
-    LastLineSilent: "a last line without line feed prints nothing";
-    LeadingZeros: "leading zeros are accepted";
-    PlusAccepted: "a plus is accepted";
-    LeftJustified: "numbers may stand anywhere in their columns";
-    BlankIsZero: "a blank field is 0";
-    UnusedFree: "an unused field may hold any number";
-    CarriageReturn: "a carriage return before the line feed is accepted";
-    UnknownCode: "a code above 11 gets 2";
-    EmptyLineSilent: "an empty line prints nothing";
-    OwnNoneZero: "an own quota is shown as 0 where the maximum is none";
-    MinusZero: "a net of 0 is shown as -0";
-    NetUnsigned: "a net below 0 is shown as 0";
-    ListedByCode: "the listing is in the order of codes";
-}
+use End::*;
 use Slip::*;
 
-static WRONG: OnceLock<Slip> = OnceLock::new();
-
-fn wrong(slip: Slip) -> bool {
-    WRONG.get() == Some(&slip)
-}
-
-fn but<T>(right: T, slip: Slip, wrong_one: T) -> T {
-    if wrong(slip) { wrong_one } else { right }
-}
+type Int = i128;
 
 // ---------------------------------------------------------------- Money and names
 
@@ -153,16 +24,49 @@ const MILS_IN_A_MILLION: Int = 1_000_000_000; // "1 million yuan is 1,000,000,00
 
 // "Ranges: price 1 to 9,999,999; quantity 1 to 10,000,000; institution code, trading unit and declarer 0 to 99,999; group number 0 to
 // 63; control class 1 to 4; order number 1 to 65,536; asset base and quota 0 to 9,999,999 millions"
-fn is_price(x: Int) -> bool { x >= 1 && x <= but(9_999_999, PriceTopShort, 9_999_998) }
-fn is_quantity(x: Int) -> bool { x >= 1 && x <= but(10_000_000, QuantityTopShort, 9_999_999) }
-fn is_code(x: Int) -> bool { x <= 99_999 }
-fn is_group(x: Int) -> bool { x <= but(63, GroupAboveUnknown, Int::MAX) }
-fn is_class(x: Int) -> bool { (1..=4).contains(&x) && !(wrong(ClassTwoOutOfRange) && x == 2) }
-fn is_quota(x: Int) -> bool { x <= 9_999_999 }
-fn is_order_number(x: Int) -> bool {
-    let least = but(1, NumberZeroUnknown, 0);
-    let greatest = but(but(65_536, NumberAbovePlaces, PLACES), NumberTopShort, 65_535);
-    x >= least && x <= greatest
+const PRICE: (Int, Int) = (1, 9_999_999);
+const QUANTITY: (Int, Int) = (1, 10_000_000);
+const CODE: (Int, Int) = (0, 99_999);
+const UNIT: (Int, Int) = (0, 99_999);
+const DECLARER: (Int, Int) = (0, 99_999);
+const GROUP: (Int, Int) = (0, 63);
+const CLASS: (Int, Int) = (1, 4);
+const ORDER: (Int, Int) = (1, 65_536);
+const QUOTA: (Int, Int) = (0, 9_999_999);
+const RAISE: (Int, Int) = (1, 9_999_999); // "emergency quota 0"
+const FLAG: (Int, Int) = (0, 1); // "flag above 1"
+const KIND: (Int, Int) = (1, 6);
+
+// "Codes, with fields"; each used field has its range here.
+fn ranges(code: usize) -> &'static [(Int, Int)] {
+    match code {
+        1 => &[CODE, CLASS],                            // enrol group
+        2 => &[UNIT, GROUP],                            // attach unit
+        3 => &[UNIT],                                   // detach unit
+        4 => &[DECLARER, GROUP, QUOTA, QUOTA],          // regular (declarer, group, base, quota)
+        5 => &[DECLARER, GROUP, RAISE, FLAG],           // emergency
+        6 => &[DECLARER, GROUP],                        // withdraw emergency
+        7 => &[GROUP, QUOTA],                           // own quota
+        8 => &[UNIT, KIND, PRICE, QUANTITY],            // order
+        9 => &[ORDER, PRICE, QUANTITY],                 // fill
+        10 => &[ORDER],                                 // cancel
+        _ => &[],                                       // close
+    }
+}
+
+fn in_range(code: usize, field: usize, x: Int) -> bool {
+    let (least, greatest) = ranges(code)[field];
+    let slip = |end| WRONG.get() == Some(&Wrong::Range(code, field, end));
+    let least = least - slip(BelowLeastPasses) as Int + slip(LeastRefused) as Int;
+    let greatest = greatest - slip(GreatestRefused) as Int + slip(AboveGreatestPasses) as Int;
+    least <= x && x <= greatest
+}
+
+// "2: a field outside its range or its kind's price rule"
+fn out_of_range(call: &Call) -> bool {
+    let is_order = call.code == 8;
+    let outside = |field: usize| !(is_order && field == 2) && !in_range(call.code, field, call.field[field]);
+    (0..ranges(call.code).len()).any(outside) || (is_order && !keeps_price_rule(call.field[1], call.field[2]))
 }
 
 // "Kinds: 1 limit buy; 2 market buy; 3 repo lending; 4 limit sell; 5 market sell; 6 repo borrowing. Kinds 1, 2, 3 are buys."
@@ -178,10 +82,9 @@ fn is_buy(kind: Int) -> bool {
 // "5 market sell (price 0, the one exception to the range) ... Kinds 3 and 6 bear price 100,000."
 fn keeps_price_rule(kind: Int, price: Int) -> bool {
     match kind {
-        1 | 2 | 4 => is_price(price),
-        3 | 6 => price == 100_000 || (wrong(RepoPriceFree) && is_price(price)),
-        5 => price == 0 || (wrong(MarketSellPriced) && is_price(price)),
-        _ => false,
+        3 | 6 => price == 100_000 || (wrong(RepoPriceFree) && in_range(8, 2, price)),
+        5 => price == 0 || (wrong(MarketSellPriced) && in_range(8, 2, price)),
+        _ => in_range(8, 2, price),
     }
 }
 
@@ -435,8 +338,8 @@ fn money(history: &[Accepted], group: usize) -> Money {
             // accepted fills of its buys and of its other orders"
             money.open += order.price * order.open();
             money.bought += fills.iter().map(|(price, quantity)| price * quantity).sum::<Int>();
-            // "Article 16: net = buys submitted − sold in fills − buys cancelled − (order price − fill price) × quantity over buy fills.
-            // A cancel takes the whole open quantity, valued at the order price."
+            // "Article 16: net = buys submitted − sold in fills − buys cancelled − (order price − fill price) × quantity over buy
+            // fills. A cancel takes the whole open quantity, valued at the order price."
             let last_price = order.fills.last().map_or(order.price, |fill| fill.0);
             let cancelled = but(order.cancelled, CancelTakesWhole, if order.cancelled > 0 { order.quantity } else { 0 });
             let improved: Int = fills.iter().map(|(price, quantity)| (order.price - price) * quantity).sum();
@@ -451,6 +354,7 @@ fn money(history: &[Accepted], group: usize) -> Money {
             money.net -= but(but(sold, SoldLeftOut, 0), SellCountedEntered, entered);
         }
     }
+    if wrong(NetInexact) { money.net = money.net as f64 as Int; }
     money
 }
 
@@ -466,20 +370,11 @@ impl Refusals {
         if applies { self.0.push(number); }
     }
 
-    fn smallest(&self) -> Int {
-        // a slip moves one number before another
-        let rank = |number: &Int| match number {
-            6 if wrong(SixBeforeFour) => 35,
-            5 if wrong(FiveBeforeFour) => 35,
-            8 if wrong(EightBeforeSeven) => 65,
-            10 if wrong(TenBeforeNine) => 85,
-            12 if wrong(TwelveBeforeEleven) => 105,
-            13 if wrong(ThirteenBeforeTwelve) => 115,
-            17 if wrong(SeventeenFirst) => 155,
-            20 if wrong(WorseFirst) => 185,
-            _ => 10 * number,
-        };
-        self.0.iter().copied().min_by_key(rank).unwrap_or(0)
+    fn smallest(&self, code: usize) -> Int {
+        if let Some(Wrong::Swap(call, small, great)) = WRONG.get() {
+            if *call == code && self.0.contains(small) && self.0.contains(great) { return *great; }
+        }
+        self.0.iter().copied().min().unwrap_or(0)
     }
 }
 
@@ -489,24 +384,23 @@ fn refusal(history: &[Accepted], call: &Call) -> Int {
     let enrolled = |group: Int| group >= 0 && group < groups.len() as Int;
     let class_and_code = |group: Int| if enrolled(group) { groups[group as usize] } else { (0, 0) };
     let mut r = Refusals::default();
+    r.when(2, out_of_range(call));
     match call.code {
         // enrol group (code, class)
         1 => {
-            r.when(2, !is_code(f[0]) || !is_class(f[1]));
+            r.when(2, wrong(ClassTwoOutOfRange) && f[1] == 2);
             r.when(3, f[1] == 2 && !wrong(ClassTwoEnrols));
             r.when(4, groups.iter().any(|g| g.0 == f[0] && (g.1 == f[1] || wrong(GroupByCodeAlone))));
             r.when(5, groups.len() >= but(64, GroupsShort, 63));
         }
         // attach unit (unit, group)
         2 => {
-            r.when(2, !is_code(f[0]) || !is_group(f[1]));
             r.when(4, group_of_unit(history, f[0]).is_some() && !wrong(AttachMoves));
             r.when(5, units_attached(history) >= but(256, UnitsShort, 255));
             r.when(6, !enrolled(f[1]));
         }
         // detach unit (unit)
         3 => {
-            r.when(2, !is_code(f[0]));
             r.when(6, group_of_unit(history, f[0]).is_none());
         }
         // regular (declarer, group, base, quota)
@@ -517,7 +411,6 @@ fn refusal(history: &[Accepted], call: &Call) -> Int {
             let standing = but(q.figures.len(), PlaceNotFreed, q.seats.len());
             let known = but(stands, PlaceNotFreed, q.seats.contains(&f[0]));
             let withdraws = f[2] == 0;
-            r.when(2, !is_code(f[0]) || !is_group(f[1]) || !is_quota(f[2]) || !is_quota(f[3]));
             r.when(6, !enrolled(f[1]));
             r.when(7, (class == 1 || (class == 4 && wrong(SevenForClassFour))) && f[0] != code);
             r.when(8, f[3] != quota_due(class, f[2]) && !(withdraws && wrong(ZeroWithdrawsWithQuota)));
@@ -532,7 +425,6 @@ fn refusal(history: &[Accepted], call: &Call) -> Int {
             let q = quotas(history, f[1]);
             let another = q.emergency.is_some() && !q.holds(f[0]);
             let above = but(f[2] > THRESHOLD, FlagAtThreshold, f[2] >= THRESHOLD);
-            r.when(2, !is_code(f[0]) || !is_group(f[1]) || !is_quota(f[2]) || f[2] == 0 || f[3] > 1);
             r.when(6, !enrolled(f[1]));
             r.when(7, class == 1 && f[0] != code && !wrong(AnyFirmRaises));
             r.when(11, another && (!q.filed() || wrong(OnlyHolderRaises)) && !wrong(OthersMayRaise));
@@ -546,7 +438,6 @@ fn refusal(history: &[Accepted], call: &Call) -> Int {
             let (code, class) = class_and_code(f[1]);
             let q = quotas(history, f[1]);
             let another = q.emergency.is_some() && !q.holds(f[0]);
-            r.when(2, !is_code(f[0]) || !is_group(f[1]));
             r.when(6, !enrolled(f[1]));
             r.when(7, class == 1 && f[0] != code && !wrong(AnyFirmRaises));
             r.when(9, q.emergency.is_none() || (q.filed() && !wrong(FiledTwice) && !(another && wrong(LateFilingIsEleven))));
@@ -555,7 +446,6 @@ fn refusal(history: &[Accepted], call: &Call) -> Int {
         // own quota (group, quota)
         7 => {
             let q = quotas(history, f[0]);
-            r.when(2, !is_group(f[0]) || !is_quota(f[1]));
             r.when(6, !enrolled(f[0]));
             r.when(14, q.maximum.is_some_and(|m| but(f[1] > m, OwnAtMaximumRefused, f[1] >= m)));
             r.when(14, wrong(OwnWithoutMaximum) && q.maximum.is_none());
@@ -564,7 +454,6 @@ fn refusal(history: &[Accepted], call: &Call) -> Int {
         // order (unit, kind, price, quantity)
         8 => {
             let group = group_of_unit(history, f[0]);
-            r.when(2, !is_code(f[0]) || !keeps_price_rule(f[1], f[2]) || !is_quantity(f[3]));
             r.when(6, group.is_none());
             if let Some(group) = group {
                 let q = quotas(history, group as Int);
@@ -586,10 +475,9 @@ fn refusal(history: &[Accepted], call: &Call) -> Int {
             let orders = orders(history);
             let place = f[0] - 1 - numbers_before(history);
             let order = if place >= 0 { orders.get(place as usize) } else { None };
-            let zero_passes = wrong(MarketSellFillFree) && order.is_some_and(|order| order.kind == 5) && f[1] == 0;
             let repo = order.is_some_and(|order| order.kind == 3 || order.kind == 6);
-            r.when(2, !is_order_number(f[0]) || !(is_price(f[1]) || zero_passes) || !is_quantity(f[2]));
             r.when(2, wrong(RepoFillOutOfRange) && repo && f[1] != 100_000);
+            r.when(2, wrong(NumberAbovePlaces) && f[0] > PLACES);
             r.when(18, order.is_none());
             if let Some(order) = order {
                 let open = but(order.open(), CancelledMayFill, order.quantity - order.filled());
@@ -603,14 +491,13 @@ fn refusal(history: &[Accepted], call: &Call) -> Int {
             let orders = orders(history);
             let place = f[0] - 1 - numbers_before(history);
             let order = if place >= 0 { orders.get(place as usize) } else { None };
-            r.when(2, !is_order_number(f[0]));
             r.when(18, order.is_none());
             r.when(19, order.is_some_and(|order| order.open() == 0) && !wrong(EmptyCancelPasses));
         }
         // close
         _ => {}
     }
-    r.smallest()
+    r.smallest(call.code)
 }
 
 // "The history's answer is the refusal list's number, 1 left aside, read over the history before the call ... else 0, with the next
@@ -645,15 +532,15 @@ fn number(column: &[u8]) -> Option<Int> {
 
 // "A call line is the code, 1 to 11, in 2 columns, four fields of 9, line feed; unused fields are 0. Any other line is malformed."
 fn call_of(line: &[u8]) -> Option<Call> {
-    const FIELDS_USED: [usize; 12] = [0, 2, 2, 1, 4, 4, 2, 2, 4, 3, 1, 0];
     let line = if wrong(CarriageReturn) { line.strip_suffix(b"\r").unwrap_or(line) } else { line };
+    let line = if wrong(TailIgnored) { &line[..line.len().min(38)] } else { line };
     if line.len() != 2 + 4 * 9 { return None; }
     let code = number(&line[..2])?;
     let mut field = [0; 4];
     for (i, column) in line[2..].chunks(9).enumerate() { field[i] = number(column)?; }
     if wrong(UnknownCode) && code > 11 { return Some(Call { code: 3, field: [100_000, 0, 0, 0] }); }
     if !(1..=11).contains(&code) { return None; }
-    let unused = &field[FIELDS_USED[code as usize]..];
+    let unused = &field[ranges(code as usize).len()..];
     if unused.iter().any(|x| *x != 0) && !wrong(UnusedFree) { return None; }
     Some(Call { code: code as usize, field })
 }
@@ -680,12 +567,12 @@ fn main() {
     match arguments.iter().map(String::as_str).collect::<Vec<_>>()[..] {
         [] => {}
         ["--slips"] => {
-            for (i, (_, says)) in SLIPS.iter().enumerate() { println!("{} {}", i + 1, says); }
+            for (i, (_, says)) in variants().iter().enumerate() { println!("{} {}", i + 1, says); }
             return;
         }
         ["--wrong", k] => {
-            let slip = k.parse::<usize>().ok().and_then(|k| SLIPS.get(k.wrapping_sub(1)));
-            let _ = WRONG.set(slip.expect("--wrong K: a number of --slips").0);
+            let variant = k.parse::<usize>().ok().and_then(|k| variants().into_iter().nth(k.wrapping_sub(1)));
+            let _ = WRONG.set(variant.expect("--wrong K: a number of --slips").0);
         }
         _ => panic!("model [--wrong K | --slips]"),
     }
@@ -708,4 +595,172 @@ fn main() {
     // "and at the end the listing"
     output += &listing(&history);
     std::io::stdout().write_all(output.as_bytes()).unwrap();
+}
+
+// ---------------------------------------------------------------- Wrong variants, each by one changed rule
+
+macro_rules! slips {
+    ($($name:ident: $says:literal;)*) => {
+        #[derive(Clone, Copy, PartialEq)]
+        enum Slip { $($name),* }
+        const SLIPS: &[(Slip, &str)] = &[$((Slip::$name, $says)),*];
+    };
+}
+
+slips! {
+    // net, orders, fills and cancels
+    CrossingRefused: "16 when net plus the order's amount is above the own quota";
+    ExactPasses: "16 only when net is above the own quota";
+    SellCountedEntered: "a sell counts when entered";
+    CancelAtFillPrice: "a cancelled rest is valued at the last fill's price";
+    ImprovementIgnored: "a better fill price gives nothing back to net";
+    SoldLeftOut: "net doesn't fall by what is sold";
+    SellsStopped: "16 stops sells as well";
+    SellsNeedMaximum: "15 stops sells as well";
+    LendingIsASell: "repo lending is no buy";
+    BorrowingIsABuy: "repo borrowing is a buy";
+    RepoPriceFree: "a repo order may bear any price";
+    RepoFillFree: "a repo fill may bear any price";
+    RepoFillOutOfRange: "a repo fill at another price gets 2";
+    MarketSellPriced: "a market sell may bear a price";
+    SellFillTurned: "20 for a limit sell filled above its price";
+    BuyFillTurned: "20 for a buy filled below its price";
+    MarketBuyFillFree: "a market buy may fill at any price";
+    EqualFillIsWorse: "20 for a fill at the order's own price";
+    SeventeenEarly: "17 one order too early";
+    SeventeenLate: "17 one order too late";
+    SellsTakeNoPlace: "17 doesn't stop sells";
+    NumbersContinue: "order numbers continue after the close";
+    NumberAbovePlaces: "an order number above N gets 2";
+    EmptyCancelPasses: "a cancel with nothing open passes";
+    CancelledMayFill: "a cancelled order may still be filled";
+    WholeQuantityFills: "19 compares with the order's whole quantity";
+    ExactFillRefused: "19 for a fill of all that is open";
+    LaterFillsDropped: "only an order's first fill is booked";
+    CancelTakesWhole: "a cancel takes the whole order, fills included, off net";
+    DetachEndsOrders: "detaching a unit ends its orders";
+    OrdersFollowUnit: "an order belongs to the group its unit is attached to now";
+    CloseKeepsMoney: "the close leaves the totals";
+    NetInexact: "net above 2^53 mils loses its last digits";
+    // groups, units and quotas
+    RoundHalfDown: "base × 2.5 is rounded half down";
+    ClassThreeTimes: "base × 2.5 for class 3";
+    ClassOneOnce: "class 1: the quota equals the base";
+    FlagAtThreshold: "flag 1 is due at the threshold itself";
+    FlagUnread: "13 never";
+    WithdrawnStaysZero: "a withdrawn figure stays as 0";
+    FilingAtOnce: "a filed withdrawal takes effect at once";
+    RegularAtOnce: "a regular figure takes effect at once";
+    RegularOverEmergency: "at the close the standing figures replace a held emergency maximum";
+    GreaterAtClose: "at the close the greater of emergency figure and standing figures";
+    SumNotCapped: "the sum of figures is not held to the threshold";
+    EmergencyCapped: "the close holds an emergency maximum to the threshold";
+    CloseForgetsFiling: "the close forgets the filing and the emergency stays held";
+    EmergencyForOneDay: "the close ends an emergency without a filing";
+    OwnRestored: "a lowered own quota rises again with the maximum";
+    OwnNotLowered: "the close doesn't lower an own quota";
+    OwnSurvivesNone: "a maximum of none leaves the declared own quota";
+    OwnEqualFollows: "an own quota declared equal to the maximum counts as undeclared";
+    OwnZeroUndeclared: "own quota 0 withdraws the declaration";
+    OwnStaysAtRaise: "an undeclared own quota doesn't follow an emergency raise";
+    OwnAtMaximumRefused: "14 for an own quota equal to the maximum";
+    OwnWithoutMaximum: "14, and not 15, where the maximum is none";
+    NinthReplaces: "a ninth declarer replaces the first";
+    EighthRefused: "10 while seven stand";
+    StandingRefused: "10 for a declarer that stands, too";
+    PlaceNotFreed: "a withdrawn declarer's place is not used again";
+    FiguresAdd: "a declarer's new figure is added to the old one";
+    OthersMayRaise: "another declarer may raise with no withdrawal filed";
+    OthersMayFile: "another declarer may file the withdrawal";
+    FilingNotVoided: "a raise after a filing doesn't void it";
+    OnlyHolderRaises: "after a filing only the holder may raise again";
+    HolderNoSecondRaise: "11 for the holder's own second raise";
+    HolderStays: "a raise by another declarer leaves the first as holder";
+    FiledTwice: "a withdrawal may be filed twice";
+    EqualRaisePasses: "12 only for a raise below the maximum in force";
+    RaiseNeedsMaximum: "12 where the maximum is none";
+    LateFilingIsEleven: "another declarer after a filing gets 11 at call 6";
+    AnyFirmRaises: "7 for regular figures alone";
+    ZeroWithdrawsWithQuota: "base 0 with any quota withdraws";
+    SevenForClassFour: "7 for class 4 as well";
+    ClassTwoEnrols: "class 2 is enrolled";
+    ClassTwoOutOfRange: "class 2 gets 2";
+    GroupByCodeAlone: "4 for the same code with another class";
+    UnitsShort: "5 at 255 units";
+    GroupsShort: "5 at 63 groups";
+    DetachKeepsSeat: "a detached unit still counts among the 256";
+    AttachMoves: "attaching an attached unit moves it";
+    // lines and columns
+    LastLineCarried: "a last line without line feed is carried out";
+    LastLineSilent: "a last line without line feed prints nothing";
+    LeadingZeros: "leading zeros are accepted";
+    PlusAccepted: "a plus is accepted";
+    LeftJustified: "numbers may stand anywhere in their columns";
+    BlankIsZero: "a blank field is 0";
+    TailIgnored: "what stands behind the 38th byte of a line is overlooked";
+    UnusedFree: "an unused field may hold any number";
+    CarriageReturn: "a carriage return before the line feed is accepted";
+    UnknownCode: "a code above 11 gets 2";
+    EmptyLineSilent: "an empty line prints nothing";
+    OwnNoneZero: "an own quota is shown as 0 where the maximum is none";
+    MinusZero: "a net of 0 is shown as -0";
+    NetUnsigned: "a net below 0 is shown as 0";
+    ListedByCode: "the listing is in the order of codes";
+}
+// Two refusals of a call that may apply together: the call, the smaller, the greater. A variant returns the greater.
+const SWAPS: &[(usize, Int, Int)] = &[
+    (1, 2, 3), (1, 2, 5), (1, 3, 5), (1, 4, 5),
+    (2, 2, 4), (2, 2, 5), (2, 2, 6), (2, 4, 5), (2, 4, 6), (2, 5, 6),
+    (3, 2, 6),
+    (4, 2, 6), (4, 2, 7), (4, 2, 8), (4, 2, 9), (4, 2, 10), (4, 6, 9), (4, 7, 8), (4, 7, 9), (4, 8, 9), (4, 8, 10), (4, 9, 10),
+    (5, 2, 6), (5, 2, 7), (5, 2, 11), (5, 2, 12), (5, 2, 13), (5, 6, 13), (5, 7, 11), (5, 7, 12), (5, 7, 13), (5, 11, 12), (5, 11, 13),
+    (5, 12, 13),
+    (6, 2, 6), (6, 2, 7), (6, 2, 9), (6, 2, 11), (6, 6, 9), (6, 7, 9), (6, 7, 11),
+    (7, 2, 6), (7, 2, 14), (7, 2, 15), (7, 6, 15),
+    (8, 2, 6), (8, 2, 15), (8, 2, 16), (8, 2, 17), (8, 6, 17), (8, 15, 17), (8, 16, 17),
+    (9, 2, 18), (9, 2, 19), (9, 2, 20), (9, 19, 20),
+    (10, 2, 18),
+];
+
+// The wrong ends of a range.
+#[derive(Clone, Copy, PartialEq)]
+enum End {
+    BelowLeastPasses,
+    LeastRefused,
+    GreatestRefused,
+    AboveGreatestPasses,
+}
+#[derive(Clone, Copy, PartialEq)]
+enum Wrong {
+    Rule(Slip),
+    Swap(usize, Int, Int),      // call, smaller and greater refusal
+    Range(usize, usize, End), // call, field from 0
+}
+
+// Every variant with its sentence; `--wrong K` is the K-th from 1.
+fn variants() -> Vec<(Wrong, String)> {
+    let mut all: Vec<(Wrong, String)> = SLIPS.iter().map(|(slip, says)| (Wrong::Rule(*slip), says.to_string())).collect();
+    for (call, small, great) in SWAPS {
+        all.push((Wrong::Swap(*call, *small, *great), format!("call {call}: {great} comes before {small}")));
+    }
+    for call in 1..=11 {
+        for (field, (least, greatest)) in ranges(call).iter().enumerate() {
+            let at = format!("call {call}, field {}", field + 1);
+            if *least > 0 { all.push((Wrong::Range(call, field, BelowLeastPasses), format!("{at}: {} is in the range", least - 1))); }
+            all.push((Wrong::Range(call, field, LeastRefused), format!("{at}: {least} is out of the range")));
+            all.push((Wrong::Range(call, field, GreatestRefused), format!("{at}: {greatest} is out of the range")));
+            all.push((Wrong::Range(call, field, AboveGreatestPasses), format!("{at}: {} is in the range", greatest + 1)));
+        }
+    }
+    all
+}
+
+static WRONG: OnceLock<Wrong> = OnceLock::new();
+
+fn wrong(slip: Slip) -> bool {
+    WRONG.get() == Some(&Wrong::Rule(slip))
+}
+
+fn but<T>(right: T, slip: Slip, wrong_one: T) -> T {
+    if wrong(slip) { wrong_one } else { right }
 }
