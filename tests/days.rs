@@ -744,7 +744,7 @@ fn day(seed: u64) -> Vec<u8> {
             }
             day.acts(500, &[0, 1, 0, 2, 1, 0, 1, 60, 30, 3, 0, 0, 2, 0, 0, 0, 1]);
             // every place with the largest amount, all filled: the most that gateday can list
-            if day.draws.one_in(4) {
+            if day.draws.one_in(2) {
                 day.close();
                 let share = day.draws.of(&[1, 2, 2, 1_000]); // one order in so many is a sell
                 let (unit, group) = day.units[0];

@@ -1,6 +1,6 @@
 // An independent model of `gateday`: call file in, gateday's output out. It is written from document 01 alone. It keeps the list of
-// accepted calls and nothing else; for every answer and every row it works out again, from that list, whatever the paper speaks of.
-// Net is Article 16's own sum, never open + bought − sold, so that a listing compares the two.
+// accepted calls (an order with its group) and nothing else; for every answer and every row it works out again, from that list, what
+// the paper speaks of. Net is Article 16's own sum, never open + bought − sold, so that a listing compares the two.
 //
 //   model < FILE             the model
 //   model --wrong K < FILE   the model with one rule changed (`tests/compare-wrong`)
@@ -148,7 +148,7 @@ struct Quotas {
     maximum: Option<Int>,
     emergency: Option<Emergency>,
     declared: Option<Int>, // the own quota, where one is declared
-    peak: Option<Int>,     // the own quota as first declared, for one slip
+    peak: Option<Int>,     // the own quota as it was declared, for one slip
 }
 
 struct Emergency {
@@ -382,7 +382,7 @@ fn refusal(history: &[Accepted], call: &Call) -> Int {
     let f = call.field;
     let groups = groups(history);
     let enrolled = |group: Int| group >= 0 && group < groups.len() as Int;
-    let class_and_code = |group: Int| if enrolled(group) { groups[group as usize] } else { (0, 0) };
+    let code_and_class = |group: Int| if enrolled(group) { groups[group as usize] } else { (0, 0) };
     let mut r = Refusals::default();
     r.when(2, out_of_range(call));
     match call.code {
@@ -405,7 +405,7 @@ fn refusal(history: &[Accepted], call: &Call) -> Int {
         }
         // regular (declarer, group, base, quota)
         4 => {
-            let (code, class) = class_and_code(f[1]);
+            let (code, class) = code_and_class(f[1]);
             let q = quotas(history, f[1]);
             let stands = q.figures.iter().any(|figure| figure.0 == f[0]);
             let standing = but(q.figures.len(), PlaceNotFreed, q.seats.len());
@@ -421,7 +421,7 @@ fn refusal(history: &[Accepted], call: &Call) -> Int {
         }
         // emergency (declarer, group, quota, flag: 1 above the threshold, else 0)
         5 => {
-            let (code, class) = class_and_code(f[1]);
+            let (code, class) = code_and_class(f[1]);
             let q = quotas(history, f[1]);
             let another = q.emergency.is_some() && !q.holds(f[0]);
             let above = but(f[2] > THRESHOLD, FlagAtThreshold, f[2] >= THRESHOLD);
@@ -435,7 +435,7 @@ fn refusal(history: &[Accepted], call: &Call) -> Int {
         }
         // withdraw emergency (declarer, group)
         6 => {
-            let (code, class) = class_and_code(f[1]);
+            let (code, class) = code_and_class(f[1]);
             let q = quotas(history, f[1]);
             let another = q.emergency.is_some() && !q.holds(f[0]);
             r.when(6, !enrolled(f[1]));
@@ -730,10 +730,11 @@ enum End {
     GreatestRefused,
     AboveGreatestPasses,
 }
+
 #[derive(Clone, Copy, PartialEq)]
 enum Wrong {
     Rule(Slip),
-    Swap(usize, Int, Int),      // call, smaller and greater refusal
+    Swap(usize, Int, Int),    // call, smaller and greater refusal
     Range(usize, usize, End), // call, field from 0
 }
 
