@@ -598,7 +598,8 @@ impl Day {
         let (code, maximum) = self.groups.get(group as usize).map_or((0, 5), |g| (g.code, g.maximum.unwrap_or(5)));
         let unit = self.unit();
         let number = self.order_number() as i128;
-        match self.draws.below(9) {
+        let holder = self.groups.get(group as usize).and_then(|g| g.emergency).map_or(code, |e| e.0);
+        match self.draws.below(11) {
             0 => written(1, [self.draws.within(0, 99_999), 4, 0, 0]),
             1 => written(2, [self.draws.within(0, 99_999), group, 0, 0]),
             2 => written(3, [unit, 0, 0, 0]),
@@ -607,6 +608,8 @@ impl Day {
             5 => written(9, [number, 10, 1, 0]),
             6 => written(10, [number, 0, 0, 0]),
             7 => written(4, [code, group, 2, self.due(group as usize, 2)]),
+            8 => written(5, [holder, group, maximum + 1, (maximum + 1 > THRESHOLD) as i128]),
+            9 => written(6, [holder, group, 0, 0]),
             _ => written(11, [0; 4]),
         }
     }

@@ -6,8 +6,9 @@
 //   model --wrong K < FILE   the model with one rule changed (`tests/compare-wrong`)
 //   model --slips            the changed rules, a line each: number K and sentence
 //
-// Changed rules are the slips of `slips!` below, two refusals in the wrong order (SWAPS), and a range one too short or too long at one
-// end. `but(right, Slip, wrong)` is `right`, unless the model runs with that slip: read the first argument and pass over the others.
+// Changed rules are the slips of `slips!` below, two refusals in the wrong order (SWAPS), a range one too short or too long at one end,
+// and a call's unused fields left unread. `but(right, Slip, wrong)` is `right`, unless the model runs with that slip: read the first
+// argument and pass over the others.
 
 use std::io::{Read, Write};
 use std::sync::OnceLock;
@@ -541,7 +542,8 @@ fn call_of(line: &[u8]) -> Option<Call> {
     if wrong(UnknownCode) && code > 11 { return Some(Call { code: 3, field: [100_000, 0, 0, 0] }); }
     if !(1..=11).contains(&code) { return None; }
     let unused = &field[ranges(code as usize).len()..];
-    if unused.iter().any(|x| *x != 0) && !wrong(UnusedFree) { return None; }
+    let overlooked = WRONG.get() == Some(&Wrong::Unused(code as usize));
+    if unused.iter().any(|x| *x != 0) && !overlooked { return None; }
     Some(Call { code: code as usize, field })
 }
 
@@ -698,7 +700,6 @@ slips! {
     LeftJustified: "numbers may stand anywhere in their columns";
     BlankIsZero: "a blank field is 0";
     TailIgnored: "what stands behind the 38th byte of a line is overlooked";
-    UnusedFree: "an unused field may hold any number";
     CarriageReturn: "a carriage return before the line feed is accepted";
     UnknownCode: "a code above 11 gets 2";
     EmptyLineSilent: "an empty line prints nothing";
@@ -736,6 +737,7 @@ enum Wrong {
     Rule(Slip),
     Swap(usize, Int, Int),    // call, smaller and greater refusal
     Range(usize, usize, End), // call, field from 0
+    Unused(usize),            // call
 }
 
 // Every variant with its sentence; `--wrong K` is the K-th from 1.
@@ -745,6 +747,7 @@ fn variants() -> Vec<(Wrong, String)> {
         all.push((Wrong::Swap(*call, *small, *great), format!("call {call}: {great} comes before {small}")));
     }
     for call in 1..=11 {
+        if ranges(call).len() < 4 { all.push((Wrong::Unused(call), format!("call {call}: an unused field may hold any number"))); }
         for (field, (least, greatest)) in ranges(call).iter().enumerate() {
             let at = format!("call {call}, field {}", field + 1);
             if *least > 0 { all.push((Wrong::Range(call, field, BelowLeastPasses), format!("{at}: {} is in the range", least - 1))); }
