@@ -241,6 +241,10 @@ fn from_bytes(bytes: &[u8]) -> Gate {
     Gate { register: words[..REGISTER].to_vec(), book: words[REGISTER..REGISTER + BOOK].to_vec(), places: words[REGISTER + BOOK..].to_vec() }
 }
 
+// Ends of ranges, and what lies behind them.
+const EDGES: [u64; 16] = [4, 5, 8, 9, 64, 65, 256, 257, 65_536, 65_537, 99_999, 100_000, 200_000, 200_001, L, L + 1];
+const QUOTAS: [u64; 4] = [9_999_999, 10_000_000, 10_000_001, 9_999_998];
+
 // One to three words overwritten, half of them such as are in use.
 fn damage(gate: &mut Gate, draws: &mut Draws) {
     for _ in 0..1 + draws.below(3) {
@@ -258,13 +262,14 @@ fn damage(gate: &mut Gate, draws: &mut Draws) {
                 &mut gate.places[draws.below(n) as usize]
             }
         };
-        *word = match draws.below(7) {
+        *word = match draws.below(8) {
             0 => draws.next(),
             1 => u64::MAX,
             2 => word.wrapping_add(1),
             3 => word.wrapping_sub(1),
             4 => *word ^ 1 << draws.below(64),
-            5 => L - draws.below(3),
+            5 => EDGES[draws.below(EDGES.len() as u64) as usize],
+            6 => QUOTAS[draws.below(4) as usize],
             _ => draws.below(12),
         };
     }
