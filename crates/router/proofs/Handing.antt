@@ -1,15 +1,15 @@
 -- A call's answer handed on, a listing's length, and the three ways in which a row is refused or handed out. Assumes nothing.
-use Prim.Native.Nat.{ℕ, zero, suc, _+_, _*_, _≤_, _<_}
+use Prim.Native.Nat.{ℕ, _*_, _≤_, _<_}
 use mathlib.Core.Path.{_≡_, refl, sym, ap, _∙_}
 use mathlib.Core.Bool.{Bool, true, false, not, _&&_}
 use mathlib.Core.List.{List, [], _∷_}
 use native.Mathlib.Omega.{arith}
 use borrow.Author.Tests.{le-leb, lt-ltb, le-ltb, ltb-false}
-use lib.Dec.{leb, ltb}
+use lib.Dec.{ltb}
 use lib.ListN.{length}
 use Rattle.rules.specs.Tests.{pick}
 use Rattle.rules.specs.Orders.{shanghai}
-use Rattle.rules.specs.Refusals.{SHORT-BUFFER, unlessRefused}
+use Rattle.rules.specs.Refusals.{SHORT-BUFFER}
 use Rattle.rules.specs.Laws.{where-refused, where-accepted}
 use Rattle.rules.specs.declared.calls.Call.{Call}
 use Rattle.rules.specs.declared.calls.Answer.{Answer}
@@ -63,10 +63,6 @@ row-put d out r m o s p q t e =
     e ∙ ap (λ (x : ℕ). stored out 0 (r .code ∷ r .class ∷ x ∷ o ∷ s ∷ r .net .0 ∷ r .money .«open» .0 ∷ r .money .bought .0 ∷ r .money .sold .0 ∷ [])) p
     ∙ ap (λ (x : ℕ). stored out 0 (r .code ∷ r .class ∷ limitWord (r .maximum) ∷ x ∷ s ∷ r .net .0 ∷ r .money .«open» .0 ∷ r .money .bought .0 ∷ r .money .sold .0 ∷ [])) q
     ∙ ap (λ (x : ℕ). stored out 0 (r .code ∷ r .class ∷ limitWord (r .maximum) ∷ limitWord (r .own) ∷ x ∷ r .net .0 ∷ r .money .«open» .0 ∷ r .money .bought .0 ∷ r .money .sold .0 ∷ [])) t
-
-length-words : (r : Row) → length (rowWords r) ≡ 9
-unfolding rowWords
-length-words r = refl
 
 -- words that fit are stored
 put-fits : (out : List ℕ) (r : Row) → 9 ≤ length out → stored out 0 (rowWords r) ≡ splice out 0 (rowWords r)

@@ -1,7 +1,6 @@
 -- What a router is handed beside a call's answer: the length of a listing, and a row as plain numbers. All else that the router's functions
 -- promise is defined in the crates below.
 use Prim.Native.Nat.{ℕ, _*_}
-use mathlib.Core.Bool.{Bool}
 use mathlib.Core.List.{List, [], _∷_}
 use lib.Dec.{ltb}
 use lib.ListN.{length}

@@ -1,5 +1,6 @@
-// The gate for order routers in C and Rust: five functions over memory that the router lends, thin over the proved layers below. Each
-// takes any content and any length; docs/EMBEDDING.md says how large the memory is and what the caller owes.
+// The gate for order routers in C and Rust: four functions over memory that the router lends, thin over the proved layers below. Each takes
+// memory of any content and any length; docs/EMBEDDING.md says how large it should be and what the caller owes. What a router may count on
+// beyond the four contracts is proved in specs/Safe.antt and specs/Rows.antt.
 ghost use mathlib.Core.Path.{_≡_};
 ghost use lib.ListN.{length};
 ghost use Rattle.rules.specs.Codes.{callOf};
