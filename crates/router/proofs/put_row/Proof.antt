@@ -1,0 +1,39 @@
+-- `router::put_row` meets its contract. Assumes nothing.
+use denote.Ref.{now}
+use Rattle.router.proofs.Handing.{row-put}
+use borrow.Author.Needs.{needs}
+use Rattle.router.proofs.put_row.Statement.{statement}
+use Rattle.router.proofs.put_row.Tie as tie
+
+limit-word-requires : tie.Need-limit-word-requires
+limit-word-requires c κs = search needs
+
+limit-word-requires-2 : tie.Need-limit-word-requires-2
+limit-word-requires-2 c κs = search needs
+
+sign-word-requires : tie.Need-sign-word-requires
+sign-word-requires c κs = search needs
+
+slice-aggregate-store : tie.Need-slice-aggregate-store
+slice-aggregate-store c = search needs
+
+store-requires : tie.Need-store-requires
+store-requires c κs = search needs
+
+same-length : tie.Need-same-length
+same-length c = search needs
+
+returns : tie.Need-returns
+returns c = row-put _ (now (c .before .before .before .before .before .before .before .before .before .before .before .before .before .before .args .out)) (c .before .before .before .before .before .before .before .before .before .before .before .before .before .before .args .row) (c .before .before .before .before .before .before .before .before .before .before .before .before .limit-word .result) (c .before .before .before .before .before .before .before .before .before .before .before .limit-word2 .result) (c .before .before .before .before .before .before .before .before .before .before .sign-word .result) (c .before .before .before .before .before .before .before .before .before .before .before .before .limit-word .ensures) (c .before .before .before .before .before .before .before .before .before .before .before .limit-word2 .ensures) (c .before .before .before .before .before .before .before .before .before .before .sign-word .ensures) (c .before .before .store .ensures)
+
+pub put-row-spec : {M : Type 1} → statement M
+put-row-spec =
+    tie.close
+    (tie.spec
+    limit-word-requires
+    limit-word-requires-2
+    sign-word-requires
+    slice-aggregate-store
+    store-requires
+    same-length
+    returns)

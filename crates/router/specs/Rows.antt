@@ -1,0 +1,156 @@
+-- The rows that a router is handed after every list of calls from a fresh gate: they are the history's, and only a short room is refused.
+-- Assumes nothing.
+use Prim.Native.Nat.{ℕ, zero, suc, _+_, _≤_, _<_}
+use mathlib.Core.Path.{_≡_, refl, sym, ap, _∙_}
+use mathlib.Core.Bool.{Bool, true, false, _&&_, false≢true}
+use mathlib.Core.List.{List, [], _∷_}
+use native.Mathlib.Omega.{arith}
+use borrow.Author.Tests.{le-leb, lt-ltb, le-ltb, leb-true}
+use lib.Dec.{leb, ltb}
+use lib.ListN.{length, getD}
+use Rattle.rules.specs.Tests.{pick, both}
+use Rattle.rules.specs.Orders.{shanghai}
+use Rattle.rules.specs.Refusals.{UNSOUND, SHORT-BUFFER}
+use Rattle.rules.specs.Laws.{where-accepted}
+use Rattle.rules.specs.declared.calls.Call.{Call}
+use Rattle.rules.specs.declared.kinds.Money.{Money}
+use Rattle.rules.specs.declared.quotas.Limit.{Limit}
+use Rattle.history.specs.Past.{History, atOpening}
+use Rattle.history.specs.Runs.{after}
+use Rattle.words.specs.Words.{splice}
+use Rattle.register.specs.Layout.{groupCount, groupAt}
+use Rattle.quota.specs.Asks.{groupsEnrolled, isEnrolled, ownInForce}
+use Rattle.book.specs.Layout.{moneyAt}
+use Rattle.gate.specs.Step.{Memory}
+use Rattle.gate.specs.Opening.{placesLent, openRefusal}
+use Rattle.gate.specs.Demand.{run, opened}
+use Rattle.gate.specs.Theorem.{Sim, run-sim, opened-sim, demand}
+use Rattle.rows.specs.Row.{rowObeys, rowKept, noRow, refusedRow, madeRow, shownRow, rowRefusal, rowAt, rowOf}
+use Rattle.rows.specs.declared.Row.{Row}
+use Rattle.rows.specs.declared.RowRead.{RowRead}
+use Rattle.listing.specs.Text.{fresh, rowsKept, listingKept}
+use Rattle.lister.specs.Listed.{rowsOn, gateRows}
+use Rattle.lister.specs.Claim.{historyRow, historyRowsOn, historyRows, ListedAs}
+use Rattle.lister.specs.Claimed.{listing-demand}
+use Rattle.router.specs.Handed.{rowLength, rowWords, handedRefusal, handedRow}
+
+-- the row of group g, by the history
+pub record HandedAs (h : History) (m : Memory) (g : ℕ) : Type 0 where
+  pub refusal : (room : ℕ) → handedRefusal (m .register) (m .book) (m .places) g room ≡ pick (ltb room rowLength) SHORT-BUFFER 0
+  pub row : (out : List ℕ) → rowLength ≤ length out → handedRow (m .register) (m .book) (m .places) g out ≡ splice out 0 (rowWords (historyRow h g))
+
+-- the claim
+abbrev pub RowDemand : Type 0
+RowDemand = (rs bs ps : List ℕ) → openRefusal rs bs ps ≡ 0 → (cs : List Call) (g : ℕ) → g < length ((after (placesLent ps) shanghai atOpening cs) .groups)
+    → HandedAs (after (placesLent ps) shanghai atOpening cs) (run shanghai (opened rs bs ps) cs) g
+
+-- row k of a list of rows
+
+gate-at : (rs bs : List ℕ) (i n k : ℕ) → k < n → getD (rowsOn rs bs i n) k noRow ≡ (rowAt rs bs (i + k)) .row
+unfolding rowsOn
+gate-at rs bs i zero k l = absurd (omega arith)
+gate-at rs bs i (suc n) zero l = let e : i ≡ i + 0 = omega arith in ap (λ (x : ℕ). (rowAt rs bs x) .row) e
+gate-at rs bs i (suc n) (suc k) l = let e : suc i + k ≡ i + suc k = omega arith in gate-at rs bs (suc i) n k (omega arith) ∙ ap (λ (x : ℕ). (rowAt rs bs x) .row) e
+
+history-at : (h : History) (i n k : ℕ) → k < n → getD (historyRowsOn h i n) k noRow ≡ historyRow h (i + k)
+unfolding historyRowsOn
+history-at h i zero k l = absurd (omega arith)
+history-at h i (suc n) zero l = let e : i ≡ i + 0 = omega arith in ap (historyRow h) e
+history-at h i (suc n) (suc k) l = let e : suc i + k ≡ i + suc k = omega arith in history-at h (suc i) n k (omega arith) ∙ ap (historyRow h) e
+
+history-length : (h : History) (i n : ℕ) → length (historyRowsOn h i n) ≡ n
+unfolding historyRowsOn
+history-length h i zero = refl
+history-length h i (suc n) = ap suc (history-length h (suc i) n)
+
+kept-at : (rows : List Row) (k : ℕ) → k < length rows → rowsKept rows ≡ true → rowKept (getD rows k noRow) ≡ true
+unfolding rowsKept
+kept-at [] k l e = absurd (omega arith)
+kept-at (r ∷ rows) zero l e = both (rowKept r) (fresh r rows && rowsKept rows) e .0
+kept-at (r ∷ rows) (suc k) l e =
+    kept-at rows k (omega arith) (both (fresh r rows) (rowsKept rows) (both (rowKept r) (fresh r rows && rowsKept rows) e .1) .1)
+
+-- no row keeps no rules, so a row that does is not refused
+none-kept : rowKept noRow ≡ false
+unfolding rowKept rowObeys
+none-kept = refl
+
+kept-shown : (code class : ℕ) (maximum own : Limit) (money : Money) → rowKept ((shownRow code class maximum own money) .row) ≡ true → (shownRow code class maximum own money) .refusal ≡ 0
+unfolding shownRow
+kept-shown code class maximum own money e = go (rowObeys code class maximum own money) e
+  where
+    go : (b : Bool) → rowKept ((pick b (madeRow code class maximum own money) (refusedRow UNSOUND)) .row) ≡ true → (pick b (madeRow code class maximum own money) (refusedRow UNSOUND)) .refusal ≡ 0
+    go true k = refl
+    go false k = absurd (false≢true (sym none-kept ∙ k))
+
+kept-clear : (rs bs : List ℕ) (g : ℕ) → rowKept ((rowAt rs bs g) .row) ≡ true → (rowAt rs bs g) .refusal ≡ 0
+unfolding rowAt
+kept-clear rs bs g e = kept-shown ((groupAt rs g) .code) ((groupAt rs g) .class) ((groupAt rs g) .quota .maximum) (ownInForce rs g) (moneyAt bs g) e
+
+-- a row that is read without refusal is handed out
+module _ (rs bs ps : List ℕ) (g : ℕ) (r : Row) (z : (rowOf rs bs ps g) .refusal ≡ 0) (e : (rowOf rs bs ps g) .row ≡ r) where
+  room-decides : (room : ℕ) → handedRefusal rs bs ps g room ≡ pick (ltb room rowLength) SHORT-BUFFER 0
+  unfolding handedRefusal
+  room-decides room = where-accepted (pick (ltb room rowLength) SHORT-BUFFER 0) ((rowOf rs bs ps g) .refusal) ((rowOf rs bs ps g) .refusal) z
+
+  row-decides : (out : List ℕ) → rowLength ≤ length out → handedRow rs bs ps g out ≡ splice out 0 (rowWords r)
+  unfolding handedRow
+  row-decides out l =
+      let s : pick (ltb (length out) rowLength) SHORT-BUFFER 0 ≡ 0 = rw (le-ltb (length out) 9 l) in
+      where-accepted (splice out 0 (rowWords ((rowOf rs bs ps g) .row))) out (handedRefusal rs bs ps g (length out)) (room-decides (length out) ∙ s)
+      ∙ ap (λ (x : Row). splice out 0 (rowWords x)) e
+
+module _ (N : ℕ) (h : History) (m : Memory) (s : Sim N h m) (count : groupCount (m .register) ≡ length (h .groups)) (d : ListedAs h m) (g : ℕ) (l : g < length (h .groups)) where
+  enrolled : groupsEnrolled (m .register) ≡ length (h .groups)
+  unfolding groupsEnrolled
+  enrolled = count
+
+  all-kept : (length (historyRows h) ≤ 64) × (rowsKept (historyRows h) ≡ true)
+  unfolding listingKept
+  all-kept = let b = both (leb (length (historyRows h)) 64) (rowsKept (historyRows h)) (d .kept) in (leb-true (length (historyRows h)) 64 (b .0), b .1)
+
+  all-long : length (historyRows h) ≡ length (h .groups)
+  unfolding historyRows
+  all-long = history-length h 0 (length (h .groups))
+
+  same-row : (rowAt (m .register) (m .book) g) .row ≡ historyRow h g
+  unfolding gateRows historyRows
+  same-row =
+      let z : 0 + g ≡ g = omega arith in
+      ap (λ (x : ℕ). (rowAt (m .register) (m .book) x) .row) (sym z)
+      ∙ sym (gate-at (m .register) (m .book) 0 (groupsEnrolled (m .register)) g (omega (arith, l, enrolled)))
+      ∙ ap (λ (x : List Row). getD x g noRow) (d .rows)
+      ∙ history-at h 0 (length (h .groups)) g l
+      ∙ ap (historyRow h) z
+
+  row-kept : rowKept ((rowAt (m .register) (m .book) g) .row) ≡ true
+  unfolding historyRows
+  row-kept =
+      let z : g ≡ 0 + g = omega arith in
+      ap rowKept (same-row ∙ ap (historyRow h) z ∙ sym (history-at h 0 (length (h .groups)) g l)) ∙ kept-at (historyRows h) g (omega (arith, l, all-long)) (all-kept .1)
+
+  none-refuses : rowRefusal (m .register) (m .book) (m .places) g ≡ 0
+  unfolding rowRefusal isEnrolled
+  none-refuses = rw (s .host, le-leb g 63 (omega (arith, l, all-long, all-kept .0)), lt-ltb g (groupCount (m .register)) (omega (arith, l, count)))
+
+  read : rowOf (m .register) (m .book) (m .places) g ≡ rowAt (m .register) (m .book) g
+  unfolding rowOf
+  read = where-accepted (rowAt (m .register) (m .book) g) (refusedRow (rowRefusal (m .register) (m .book) (m .places) g)) (rowRefusal (m .register) (m .book) (m .places) g) none-refuses
+
+  handed-as : HandedAs h m g
+  handed-as =
+      let z : (rowOf (m .register) (m .book) (m .places) g) .refusal ≡ 0 = ap (λ (x : RowRead). x .refusal) read ∙ kept-clear (m .register) (m .book) g row-kept in
+      let e : (rowOf (m .register) (m .book) (m .places) g) .row ≡ historyRow h g = ap (λ (x : RowRead). x .row) read ∙ same-row in
+      record {
+        refusal = room-decides (m .register) (m .book) (m .places) g (historyRow h g) z e;
+        row = row-decides (m .register) (m .book) (m .places) g (historyRow h g) z e;
+      }
+
+pub row-demand : RowDemand
+row-demand rs bs ps o cs g l =
+    handed-as (placesLent ps) (after (placesLent ps) shanghai atOpening cs) (run shanghai (opened rs bs ps) cs)
+    (run-sim (placesLent ps) shanghai cs atOpening (opened rs bs ps) (opened-sim rs bs ps o))
+    (demand rs bs ps o cs .either-market .same-groups)
+    (listing-demand rs bs ps o cs)
+    g
+    l

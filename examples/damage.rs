@@ -1,0 +1,355 @@
+// Damages a gate's memory at random and checks what docs/EMBEDDING.md says of it. On random days, with random words of register, book and
+// places overwritten at random points:
+//   - memory with a figure out of its range is answered by 1, at every call, listing and row;
+//   - every other answer is one of the refusal list, or an accepted call that writes only the memory that is its own;
+//   - after every refusal all three slices, and a listing's or a row's buffer, are as they were;
+//   - a gate restored from a copy of its bytes goes on as if nothing had happened;
+//   - undamaged memory is never answered by 1.
+// A check that fails stops the program with another status than 0. Own generator, fixed seed: every run does the same.
+mod gate;
+
+use gate::{Answer, Gate, BOOK, DASH, MOST_GROUPS, PLACE, REGISTER, ROW_BYTES, ROW_WORDS, UNSOUND};
+
+const DAYS: usize = 12_000;
+const L: u64 = 6_553_599_344_640_000_000;
+const FIRST_GROUP: usize = 2;
+const STRIDE: usize = 23;
+const FIRST_UNIT: usize = 1474;
+
+// Random numbers by xorshift.
+struct Draws(u64);
+
+impl Draws {
+    fn next(&mut self) -> u64 {
+        self.0 ^= self.0 << 13;
+        self.0 ^= self.0 >> 7;
+        self.0 ^= self.0 << 17;
+        self.0.wrapping_mul(0x2545_f491_4f6c_dd1d)
+    }
+
+    fn below(&mut self, n: u64) -> u64 {
+        (self.next() >> 16) % n
+    }
+
+    fn once_in(&mut self, n: u64) -> bool {
+        self.below(n) == 0
+    }
+}
+
+// ---- what the paper says of the memory, written anew from "Money and names" and the layout in docs/EMBEDDING.md
+
+fn group_in_range(words: &[u64]) -> bool {
+    let most = |j: usize| match j {
+        0 | 7..=14 => 99_999,
+        1 => 4,
+        2 | 3 => 10_000_000,
+        4 => 200_000,
+        6 => 8,
+        _ => 9_999_999,
+    };
+    words.iter().enumerate().all(|(j, &w)| w <= most(j)) && words[1] >= 1 && (words[4] != 200_000 || words[5] == 0)
+}
+
+fn in_range(gate: &Gate) -> bool {
+    let (register, book) = (&gate.register, &gate.book);
+    if register.len() != REGISTER || book.len() != BOOK || register[0] > 64 || register[1] > 256 {
+        return false;
+    }
+    let (groups, units) = (register[0] as usize, register[1] as usize);
+    (0..groups).all(|g| group_in_range(&register[FIRST_GROUP + STRIDE * g..][..STRIDE]))
+        && (0..units).all(|k| register[FIRST_UNIT + 2 * k] <= 99_999 && register[FIRST_UNIT + 2 * k + 1] < groups as u64)
+        && (1..=65_536).contains(&book[0])
+        && gate.places.len() as u64 == 4 * book[0]
+        && book[1] <= book[0]
+        && book[2..2 + 3 * groups].iter().all(|&money| money <= L)
+}
+
+// The place of an order, where its number was given.
+fn place_in_range(gate: &Gate, order: u64) -> bool {
+    if order < 1 || order > gate.book[1] {
+        return true;
+    }
+    let at = 4 * (order as usize - 1);
+    let [group, kind, price, open] = [gate.places[at], gate.places[at + 1], gate.places[at + 2], gate.places[at + 3]];
+    let priced = match kind {
+        1 | 2 | 4 => (1..=9_999_999).contains(&price),
+        3 | 6 => price == 100_000,
+        5 => price == 0,
+        _ => false,
+    };
+    group < gate.register[0] && priced && open <= 10_000_000
+}
+
+// ---- random days
+
+fn random_call(gate: &Gate, draws: &mut Draws) -> [u64; 5] {
+    let d = draws;
+    let (unit, group, declarer) = (d.below(6), d.below(4), d.below(10));
+    let amount = if d.once_in(3) { 99_990 + d.below(20) } else { d.below(12) };
+    let order = d.below(gate.book[1].min(65_536) + 2);
+    let mut call = match d.below(24) {
+        0 | 1 => [1, d.below(4), 1 + d.below(4), d.next(), 0],
+        2 | 3 => [2, unit, group, 0, d.next()],
+        4 => [3, unit, 0, 0, 0],
+        5 | 6 | 7 => [4, declarer, group, amount, if d.once_in(2) { amount } else { (amount * 5 + 1) / 2 }],
+        8 => [5, declarer, group, amount, d.below(2)],
+        9 => [6, declarer, group, 0, 0],
+        10 => [7, group, d.below(12), 0, 0],
+        11 => [11, 0, 0, 0, 0],
+        12..=17 => {
+            let kind = 1 + d.below(6);
+            let price = [1 + d.below(20_000), 1 + d.below(20_000), 100_000, 1 + d.below(20_000), 0, 100_000][kind as usize - 1];
+            [8, unit, kind, price, 1 + d.below(400_000)]
+        }
+        18..=21 => {
+            let at = (4 * order as usize).saturating_sub(4);
+            let price = gate.places.get(at + 2).map_or(0, |&p| p.wrapping_add(d.below(3)).wrapping_sub(1));
+            [9, order, if d.once_in(4) { 1 + d.below(100_000) } else { price }, 1 + d.below(200_000), 0]
+        }
+        22 => [10, order, 0, 0, 0],
+        _ => [d.below(14), d.below(20), d.below(20), d.below(20), d.below(20)],
+    };
+    if d.once_in(20) {
+        let wild = [0, 1, 64, 65_537, 100_000, 10_000_001, L, u64::MAX, d.next()];
+        call[d.below(5) as usize] = wild[d.below(9) as usize];
+    }
+    call
+}
+
+// Three groups with units and maxima, as most days have them from the start.
+const MORNING: [[u64; 5]; 13] = [
+    [1, 1, 1, 0, 0],
+    [1, 2, 3, 0, 0],
+    [1, 3, 4, 0, 0],
+    [2, 0, 0, 0, 0],
+    [2, 1, 0, 0, 0],
+    [2, 2, 1, 0, 0],
+    [2, 3, 1, 0, 0],
+    [2, 4, 2, 0, 0],
+    [4, 1, 0, 3, 8],
+    [4, 5, 1, 7, 7],
+    [4, 6, 1, 2, 2],
+    [4, 7, 2, 9, 9],
+    [11, 0, 0, 0, 0],
+];
+
+// ---- checks
+
+struct Seen {
+    calls: u64,
+    unsound: u64,
+    answers: [u64; 23],
+}
+
+// One call, with every check of its answer and of the memory after it.
+fn checked_call(gate: &mut Gate, call: [u64; 5], seen: &mut Seen) -> Answer {
+    let before = gate.clone();
+    let sound = in_range(&before);
+    let answer = gate.call(call);
+    seen.calls += 1;
+    assert!(answer.refusal <= 20, "{call:?} answers {answer:?}");
+    seen.answers[answer.refusal as usize] += 1;
+    if !sound {
+        seen.unsound += 1;
+        assert_eq!(answer.refusal, UNSOUND, "memory out of range, {call:?}");
+    }
+    if sound && (9..=10).contains(&call[0]) && !place_in_range(&before, call[1]) {
+        assert_eq!(answer.refusal, UNSOUND, "a place out of range, {call:?}");
+    }
+    if sound && !(8..=10).contains(&call[0]) {
+        assert_ne!(answer.refusal, UNSOUND, "memory in range, {call:?}");
+    }
+    if !(1..=11).contains(&call[0]) {
+        assert_eq!(answer.refusal, if sound { 2 } else { 1 }, "no call has this code, {call:?}");
+    }
+    if answer.refusal != 0 {
+        assert_eq!(answer.number, 0);
+        assert!(*gate == before, "{call:?} is refused by {} and changed the memory", answer.refusal);
+        return answer;
+    }
+    let number = match call[0] {
+        1 => before.register[0],
+        8 => before.book[1] + 1,
+        _ => 0,
+    };
+    assert_eq!(answer.number, number, "{call:?}");
+    if call[0] <= 7 {
+        assert!(gate.book == before.book, "{call:?} changed the book");
+    }
+    if (8..=10).contains(&call[0]) {
+        assert!(gate.register == before.register, "{call:?} changed the register");
+    }
+    let own = match call[0] {
+        8 => 4 * (number as usize - 1)..4 * number as usize,
+        9 | 10 => 4 * call[1] as usize - 1..4 * call[1] as usize,
+        _ => 0..0,
+    };
+    assert!(gate.places[..own.start] == before.places[..own.start], "{call:?} changed another place");
+    assert!(gate.places[own.end..] == before.places[own.end..], "{call:?} changed another place");
+    answer
+}
+
+// A listing and a row of any memory: refused without a byte written, or of the length that is said, the tail kept.
+fn check_readers(gate: &Gate, draws: &mut Draws) {
+    let sound = in_range(gate);
+    let before = gate.clone();
+    let mut buffer = vec![7u8; draws.below(ROW_BYTES as u64 * 6) as usize];
+    if draws.once_in(2) {
+        buffer.resize(ROW_BYTES * MOST_GROUPS, 7);
+    }
+    let listed = gate.listing(&mut buffer);
+    assert!([0, 1, 22].contains(&listed.refusal));
+    assert!(sound || listed.refusal == UNSOUND);
+    let n = listed.number as usize;
+    assert!(listed.refusal == 0 || n == 0);
+    assert!(listed.refusal != 0 || n == ROW_BYTES * gate.register[0] as usize);
+    assert!(buffer[n..].iter().all(|&b| b == 7));
+    assert!(buffer[..n].chunks(ROW_BYTES).all(|line| line[ROW_BYTES - 1] == b'\n'));
+
+    let group = draws.below(6);
+    let mut out = vec![7u64; draws.below(14) as usize];
+    let refusal = gate.row(group, &mut out);
+    assert!([0, 1, 6, 22].contains(&refusal));
+    assert!(sound || refusal == UNSOUND);
+    if refusal != 0 {
+        assert!(out.iter().all(|&w| w == 7));
+    } else {
+        assert!(out[ROW_WORDS..].iter().all(|&w| w == 7));
+        assert_eq!(out[2] == DASH, out[3] == DASH);
+        if listed.refusal == 0 {
+            assert_eq!(row_line(&out), &buffer[ROW_BYTES * group as usize..][..ROW_BYTES]);
+        }
+    }
+    assert!(*gate == before, "a listing or a row changed the memory");
+}
+
+// The listing's line of a row's words.
+fn row_line(row: &[u64]) -> Vec<u8> {
+    let limit = |w: u64| if w == DASH { "-".to_string() } else { w.to_string() };
+    let net = format!("{}{}", if row[4] == 1 { "-" } else { "" }, row[5]);
+    format!("{:5}{:2}{:>8}{:>8}{:>21}{:21}{:21}{:21}\n", row[0], row[1], limit(row[2]), limit(row[3]), net, row[6], row[7], row[8]).into_bytes()
+}
+
+// ---- copies and damage
+
+fn to_bytes(gate: &Gate) -> Vec<u8> {
+    [&gate.register, &gate.book, &gate.places].into_iter().flatten().flat_map(|w| w.to_ne_bytes()).collect()
+}
+
+fn from_bytes(bytes: &[u8]) -> Gate {
+    let words: Vec<u64> = bytes.chunks_exact(8).map(|b| u64::from_ne_bytes(b.try_into().unwrap())).collect();
+    Gate { register: words[..REGISTER].to_vec(), book: words[REGISTER..REGISTER + BOOK].to_vec(), places: words[REGISTER + BOOK..].to_vec() }
+}
+
+// Ends of ranges, and what lies behind them.
+const EDGES: [u64; 16] = [4, 5, 8, 9, 64, 65, 256, 257, 65_536, 65_537, 99_999, 100_000, 200_000, 200_001, L, L + 1];
+const QUOTAS: [u64; 4] = [9_999_999, 10_000_000, 10_000_001, 9_999_998];
+
+// One to three words overwritten, half of them such as are in use.
+fn damage(gate: &mut Gate, draws: &mut Draws) {
+    for _ in 0..1 + draws.below(3) {
+        let used = draws.once_in(2);
+        let (groups, units, orders) = (gate.register[0].min(64), gate.register[1].min(256), gate.book[1].min(gate.places.len() as u64 / 4));
+        let word = match draws.below(3) {
+            0 if used && units > 0 && draws.once_in(4) => &mut gate.register[FIRST_UNIT + draws.below(2 * units) as usize],
+            0 if used => &mut gate.register[draws.below(2 + STRIDE as u64 * groups) as usize],
+            0 => &mut gate.register[draws.below(REGISTER as u64) as usize],
+            1 if used => &mut gate.book[draws.below(2 + 3 * groups) as usize],
+            1 => &mut gate.book[draws.below(BOOK as u64) as usize],
+            _ if used && orders > 0 => &mut gate.places[draws.below(4 * orders) as usize],
+            _ => {
+                let n = gate.places.len() as u64;
+                &mut gate.places[draws.below(n) as usize]
+            }
+        };
+        *word = match draws.below(8) {
+            0 => draws.next(),
+            1 => u64::MAX,
+            2 => word.wrapping_add(1),
+            3 => word.wrapping_sub(1),
+            4 => *word ^ 1 << draws.below(64),
+            5 => EDGES[draws.below(EDGES.len() as u64) as usize],
+            6 => QUOTAS[draws.below(4) as usize],
+            _ => draws.below(12),
+        };
+    }
+}
+
+// ---- lengths
+
+fn check_lengths(draws: &mut Draws) {
+    for (register, book, places) in [(0, 0, 0), (REGISTER - 1, BOOK, 8), (REGISTER + 1, BOOK, 8), (REGISTER, BOOK - 1, 8), (REGISTER, BOOK + 1, 8), (REGISTER, BOOK, 0), (REGISTER, BOOK, 3), (REGISTER, BOOK, 7), (REGISTER, BOOK, 4 * 65_537)] {
+        let mut gate = Gate::lent(register, book, places, 7);
+        let before = gate.clone();
+        assert_eq!(gate.open(), UNSOUND);
+        assert!(gate == before);
+        assert_eq!(gate.call([11, 0, 0, 0, 0]).refusal, UNSOUND);
+        assert!(gate == before);
+        assert_eq!(gate.listing(&mut [0; 200]).refusal, UNSOUND);
+        assert_eq!(gate.row(0, &mut [0; 9]), UNSOUND);
+    }
+    // a gate that is handed other slices than at its opening
+    let mut gate = Gate::lent(REGISTER, BOOK, 4 * 5, 0);
+    assert_eq!(gate.open(), 0);
+    for (register, book, places) in [(REGISTER, BOOK, 4 * 4), (REGISTER, BOOK, 4 * 6), (REGISTER, BOOK, 4 * 5 + 1), (REGISTER + 1, BOOK, 4 * 5), (REGISTER, BOOK + 1, 4 * 5), (1, BOOK, 4 * 5), (REGISTER, 1, 4 * 5)] {
+        let mut other = gate.clone();
+        other.register.resize(register, 0);
+        other.book.resize(book, 0);
+        other.places.resize(places, 0);
+        for code in 1..=11 {
+            let before = other.clone();
+            assert_eq!(other.call([code, draws.below(3), 1, 1, 1]).refusal, UNSOUND);
+            assert!(other == before);
+        }
+    }
+    // the largest gate
+    let mut gate = Gate::lent(REGISTER, BOOK, 4 * 65_536, u64::MAX);
+    assert_eq!(gate.open(), 0);
+    assert!(gate.places.iter().all(|&w| w == u64::MAX));
+}
+
+fn main() {
+    let mut draws = Draws(0x9e37_79b9_7f4a_7c15);
+    let mut whole = Seen { calls: 0, unsound: 0, answers: [0; 23] };
+    let mut hurt = Seen { calls: 0, unsound: 0, answers: [0; 23] };
+    check_lengths(&mut draws);
+    for _ in 0..DAYS {
+        let n = [1, 3, 20, 64][draws.below(4) as usize];
+        let mut gate = Gate::lent(REGISTER, BOOK, PLACE * n, draws.next());
+        assert_eq!(gate.open(), 0);
+        if !draws.once_in(4) {
+            for call in MORNING {
+                assert_eq!(checked_call(&mut gate, call, &mut whole).refusal, 0);
+            }
+        }
+        for _ in 0..draws.below(90) {
+            let call = random_call(&gate, &mut draws);
+            checked_call(&mut gate, call, &mut whole);
+        }
+        check_readers(&gate, &mut draws);
+
+        let copy = to_bytes(&gate);
+        damage(&mut gate, &mut draws);
+        let damaged = gate.clone();
+        let mut touched = false;
+        for _ in 0..1 + draws.below(12) {
+            let call = random_call(&gate, &mut draws);
+            touched |= checked_call(&mut gate, call, &mut hurt).refusal == 0;
+        }
+        assert!(touched || gate == damaged);
+        check_readers(&gate, &mut draws);
+
+        // restored, it answers as a gate that was never damaged
+        let mut twin = from_bytes(&copy);
+        gate = from_bytes(&copy);
+        for _ in 0..draws.below(12) {
+            let call = random_call(&gate, &mut draws);
+            assert_eq!(checked_call(&mut gate, call, &mut whole), twin.call(call));
+        }
+        assert!(gate == twin);
+    }
+    assert_eq!(whole.answers[UNSOUND as usize], 0, "undamaged memory was answered by 1");
+    assert!(hurt.unsound > 10_000 && hurt.answers[0] > 1_000, "too little was tried");
+    println!("{DAYS} days; undamaged: {} calls, answers {:?}", whole.calls, &whole.answers[..21]);
+    println!("damaged: {} calls, {} with a figure out of range, answers {:?}", hurt.calls, hurt.unsound, &hurt.answers[..21]);
+}
