@@ -4,6 +4,7 @@
 //   - every other answer is one of the refusal list, or an accepted call that writes only the memory that is its own;
 //   - after every refusal all three slices, and a listing's or a row's buffer, are as they were;
 //   - a gate restored from a copy of its bytes goes on as if nothing had happened;
+//   - words that are not in use yet decide no answer;
 //   - undamaged memory is never answered by 1.
 // A check that fails stops the program with another status than 0. Own generator, fixed seed: every run does the same.
 mod gate;
@@ -223,6 +224,12 @@ fn check_readers(gate: &Gate, draws: &mut Draws) {
     assert!(*gate == before, "a listing or a row changed the memory");
 }
 
+fn listing_of(gate: &Gate) -> Vec<u8> {
+    let mut buffer = vec![0u8; ROW_BYTES * MOST_GROUPS];
+    assert_eq!(gate.listing(&mut buffer).refusal, 0);
+    buffer
+}
+
 // The listing's line of a row's words.
 fn row_line(row: &[u64]) -> Vec<u8> {
     let limit = |w: u64| if w == DASH { "-".to_string() } else { w.to_string() };
@@ -273,6 +280,14 @@ fn damage(gate: &mut Gate, draws: &mut Draws) {
             _ => draws.below(12),
         };
     }
+}
+
+// Anything in the words of groups and units above the counts and of places above the last number given.
+fn fill_unused(gate: &mut Gate, draws: &mut Draws) {
+    let (groups, units, orders) = (gate.register[0] as usize, gate.register[1] as usize, gate.book[1] as usize);
+    gate.register[FIRST_GROUP + STRIDE * groups..FIRST_UNIT].fill_with(|| draws.next());
+    gate.register[FIRST_UNIT + 2 * units..].fill_with(|| draws.next());
+    gate.places[4 * orders..].fill_with(|| draws.next());
 }
 
 // ---- lengths
@@ -339,14 +354,19 @@ fn main() {
         assert!(touched || gate == damaged);
         check_readers(&gate, &mut draws);
 
-        // restored, it answers as a gate that was never damaged
-        let mut twin = from_bytes(&copy);
+        // restored, it answers as a gate that was never damaged, and as one with anything in the unused words
         gate = from_bytes(&copy);
+        let mut twin = from_bytes(&copy);
+        let mut noisy = from_bytes(&copy);
+        fill_unused(&mut noisy, &mut draws);
         for _ in 0..draws.below(12) {
             let call = random_call(&gate, &mut draws);
-            assert_eq!(checked_call(&mut gate, call, &mut whole), twin.call(call));
+            let answer = checked_call(&mut gate, call, &mut whole);
+            assert_eq!(answer, twin.call(call));
+            assert_eq!(answer, noisy.call(call));
         }
         assert!(gate == twin);
+        assert!(listing_of(&gate) == listing_of(&noisy));
     }
     assert_eq!(whole.answers[UNSOUND as usize], 0, "undamaged memory was answered by 1");
     assert!(hurt.unsound > 10_000 && hurt.answers[0] > 1_000, "too little was tried");

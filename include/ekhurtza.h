@@ -41,7 +41,7 @@ extern "C" {
 
 /* The refusals. Of several that apply the smallest is returned, and all lent memory keeps its contents. */
 #define EKHURTZA_ACCEPTED 0
-#define EKHURTZA_UNSOUND 1              /* N out of range or other than at opening, or a figure of the memory out of its range */
+#define EKHURTZA_UNSOUND 1              /* N out of range or other than at opening; a figure of the memory out of its range, or a total that would leave it */
 #define EKHURTZA_OUT_OF_RANGE 2         /* a field outside its range or its kind's price rule; a code that is no call's */
 #define EKHURTZA_NOT_CONTROLLED 3       /* enrolling class 2 */
 #define EKHURTZA_ALREADY_THERE 4        /* group already enrolled, unit already attached */

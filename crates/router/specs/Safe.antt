@@ -1,21 +1,23 @@
 -- What a router may count on at every call, whatever its memory holds, damaged or not: a refusal returns its number alone and leaves all
 -- memory as it was; memory with a figure out of its range is answered by 1; and a code that is no call's is refused by 2.
 -- `step` is the definition that the contract of `ekhurtza_call` names. Assumes nothing.
-use Prim.Native.Nat.{ℕ, zero, suc, _+_, _-_, _≤_}
+use Prim.Native.Nat.{ℕ, zero, suc, _+_, _-_, _*_, _≤_}
 use mathlib.Core.Path.{_≡_, refl, sym, _∙_}
 use mathlib.Core.Logic.{_≢_}
 use mathlib.Core.Bool.{Bool, true, false, not, _&&_, false≢true}
 use mathlib.Core.List.{List, [], _∷_}
 use native.Mathlib.Omega.{arith}
 use borrow.Author.Tests.{ne-eqb}
+use lib.Dec.{ltb}
 use Rattle.rules.specs.Tests.{pick}
 use Rattle.rules.specs.Calls.{accepted, refused}
 use Rattle.rules.specs.Codes.{noCall, orderCallOf, callOf}
 use Rattle.rules.specs.Keyed.{find, isThere}
 use Rattle.rules.specs.Lists.{enrolRules, attachRules, detachRules, regularRules, raiseRules, withdrawRules, ownQuotaRules, orderRules, fillRules, cancelRules, closeRules}
 use Rattle.rules.specs.Orders.{shanghai}
-use Rattle.rules.specs.Refusals.{UNSOUND, OUT-OF-RANGE, refusal, unlessRefused}
+use Rattle.rules.specs.Refusals.{UNSOUND, OUT-OF-RANGE, SHORT-BUFFER, refusal, unlessRefused}
 use Rattle.rules.specs.declared.calls.Answer.{Answer}
+use Rattle.rules.specs.declared.money.Mils.{Mils}
 use Rattle.rules.specs.declared.calls.Call.{Call}
 use Rattle.rules.specs.declared.calls.Call.the-variants.{Enrol, Attach, Detach, Regular, Raise, Withdraw, OwnQuota, Order, Fill, Cancel, Close}
 use Rattle.register.specs.Layout.{groupCount, groupAt, putGroup, addGroup, unitsOf, addUnit, removeUnit}
@@ -29,6 +31,10 @@ use Rattle.book.specs.Check.{bookOk}
 use Rattle.orders.specs.Host.{hostOk, namedOk}
 use Rattle.orders.specs.Calls.{unlessBroken, orderReads, placeReads, orderBooked, orderRefusal, orderAnswer, orderBook, orderPlaces, fillBooked, fillRefusal, fillBook, fillPlaces, cancelBooked, cancelRefusal, cancelBook, cancelPlaces, closedBook}
 use Rattle.orders.specs.declared.booking.Booked.{Booked}
+use Rattle.rows.specs.Row.{rowRefusal, rowOf}
+use Rattle.listing.specs.Text.{listingKept}
+use Rattle.lister.specs.Listed.{gateRows, listRefusal}
+use Rattle.router.specs.Handed.{handedRefusal}
 use Rattle.gate.specs.Step.{Memory, Stepped, memory, bookSound, step}
 
 -- "A refusal returns its number alone; gate, places and buffers keep their contents."
@@ -141,6 +147,37 @@ always-hurt m Close e = hurt-close m (registerOk (m .register)) (bookOk (m .book
 
 pub safe : (m : Memory) (c : Call) → Safe m c
 safe m c = record { alone = always-alone m c; damaged = always-hurt m c }
+
+-- the same of a fill and a cancel, where a figure in the place of the order that they name is out of its range
+
+fails-too : (a b : Bool) → b ≡ false → (a && b) ≡ false
+fails-too true b e = e
+fails-too false b e = refl
+
+pub fill-damaged : (m : Memory) (order : ℕ) (price : Mils) (quantity : ℕ) → namedOk (m .register) (m .book) (m .places) order ≡ false
+    → refusalIn (step shanghai m (Fill order price quantity)) ≡ UNSOUND
+unfolding step fillRefusal
+fill-damaged m order price quantity e =
+    hurt-listed (hostOk (m .register) (m .book) (m .places) && namedOk (m .register) (m .book) (m .places) order) (fillRules order price quantity (placeReads (m .book) (m .places) order)) (fillBooked (m .book) (m .places) order price quantity) 0 (fails-too (hostOk (m .register) (m .book) (m .places)) (namedOk (m .register) (m .book) (m .places) order) e)
+
+pub cancel-damaged : (m : Memory) (order : ℕ) → namedOk (m .register) (m .book) (m .places) order ≡ false → refusalIn (step shanghai m (Cancel order)) ≡ UNSOUND
+unfolding step cancelRefusal
+cancel-damaged m order e =
+    hurt-listed (hostOk (m .register) (m .book) (m .places) && namedOk (m .register) (m .book) (m .places) order) (cancelRules order (placeReads (m .book) (m .places) order)) (cancelBooked (m .book) (m .places) order) 0 (fails-too (hostOk (m .register) (m .book) (m .places)) (namedOk (m .register) (m .book) (m .places) order) e)
+
+-- and of a listing and a row
+
+first-refuses : (s b : Bool) (rules : List (ℕ × Bool)) → s ≡ false → refusal ((UNSOUND, not (s && b)) ∷ rules) ≡ UNSOUND
+first-refuses true b rules e = absurd (false≢true (sym e))
+first-refuses false b rules e = refl
+
+pub listing-damaged : (rs bs ps : List ℕ) (room : ℕ) → hostOk rs bs ps ≡ false → listRefusal rs bs ps room ≡ UNSOUND
+unfolding listRefusal
+listing-damaged rs bs ps room e = first-refuses (hostOk rs bs ps) (listingKept (gateRows rs bs)) ((SHORT-BUFFER, ltb room (108 * groupsEnrolled rs)) ∷ []) e
+
+pub row-damaged : (rs bs ps : List ℕ) (group room : ℕ) → hostOk rs bs ps ≡ false → handedRefusal rs bs ps group room ≡ UNSOUND
+unfolding handedRefusal rowOf rowRefusal
+row-damaged rs bs ps group room e = rw e
 
 -- a code that is no call's: the call that it stands for, and its answer
 
