@@ -6,11 +6,11 @@ use mathlib.Core.List.{List, [], _∷_, _++_, append-assoc, append-nil}
 use native.Mathlib.Nat.{add-assoc, zero-add, suc-add}
 use native.Mathlib.Numerals.{add-one}
 use native.Mathlib.Omega.{arith}
-use borrow.Author.Tests.{le-leb, lt-leb, lt-ltb, le-ltb, ltb-true, ltb-false, eq-eqb, ne-eqb}
+use borrow.Author.Tests.{le-leb, lt-leb, lt-ltb, le-ltb, ltb-true, ltb-false, eq-eqb, ne-eqb, eqb-false, not-true}
 use lib.Dec.{eqb, leb, ltb}
 use lib.ListN.{length, take, drop, getD, set, length-append, length-drop, drop-of-length-le}
 use lib.Seq.{paste, paste-zero, paste-suc, drop-paste, drop-cons, drop-drop, getD-drop}
-use Rattle.rules.specs.Tests.{pick}
+use Rattle.rules.specs.Tests.{pick, both}
 use Rattle.rules.specs.Orders.{shanghai}
 use Rattle.rules.specs.Calls.{refused}
 use Rattle.rules.specs.Refusals.{MALFORMED}
@@ -371,3 +371,33 @@ moved-all d b from n i h l e =
 
 pub held-is : (a : Answer) (r n : ℕ) → r ≡ min (a .refusal) 999 → n ≡ min (a .number) 999_999 → _≡_ {A = Answer} (record { refusal = r; number = n }) (heldTo a)
 held-is a r n er en = rw (er, en)
+
+-- ---- a line as long as a call line
+
+past : (u : List ℕ) (n : ℕ) → n ≤ lineLength u → lineLength u ≡ n + lineLength (drop n u)
+unfolding lineLength
+past u zero h = sym (zero-add (lineLength u))
+past [] (suc n) h = absurd (omega arith)
+past (b ∷ u) (suc n) h = go (eqb b 10) (λ l. past u n l) h
+  where
+    go : (t : Bool) → (n ≤ lineLength u → lineLength u ≡ n + lineLength (drop n u)) → suc n ≤ pick t 0 (suc (lineLength u)) → pick t 0 (suc (lineLength u)) ≡ suc n + lineLength (drop n u)
+    go true ih l = absurd (omega (arith, l))
+    go false ih l = ap suc (ih (omega (arith, l))) ∙ sym (suc-add n (lineLength (drop n u)))
+
+module _ (t : List ℕ) (i : ℕ) where
+  line-past : (n : ℕ) → n ≤ lineLength (drop i t) → lineLength (drop i t) ≡ n + lineLength (drop (i + n) t)
+  line-past n h = past (drop i t) n h ∙ ap (λ (x : List ℕ). n + lineLength x) (drop-drop n i t)
+
+  -- one byte more that is no line feed
+  pub past-on : (n : ℕ) → n ≤ lineLength (drop i t) → i + n < length t → (getD t (i + n) 0 ≡ 10 → ⊥) → n + 1 ≤ lineLength (drop i t)
+  past-on n h l e = omega (arith, line-past n h, line-on t (i + n) l e)
+
+  -- and one that is
+  pub past-end : (n : ℕ) → n ≤ lineLength (drop i t) → i + n < length t → getD t (i + n) 0 ≡ 10 → i + n ≡ i + lineLength (drop i t)
+  past-end n h l e = omega (arith, line-past n h, line-here t (i + n) l e)
+
+-- a byte more looked at
+pub none-on : (t : List ℕ) (i k : ℕ) (none : Bool) → i + k < length t → (none ≡ true → k ≤ lineLength (drop i t)) → (none && not (eqb (getD t (i + k) 0) 10)) ≡ true → k + 1 ≤ lineLength (drop i t)
+none-on t i k none l h e =
+    let b = both none (not (eqb (getD t (i + k) 0) 10)) e in
+    past-on t i k (h (b .0)) l (eqb-false (getD t (i + k) 0) 10 (not-true (eqb (getD t (i + k) 0) 10) (b .1)))

@@ -1,5 +1,6 @@
 // The part of gateday that decides: call lines in, answers out, over slices. The program around it only reads and writes.
 ghost use mathlib.Core.Path.{_≡_};
+ghost use mathlib.Core.Bool.{true};
 ghost use Prim.Native.Nat.{_+_, _-_, _≤_, min};
 ghost use lib.ListN.{length, take, drop};
 ghost use lib.Seq.{paste};
@@ -45,8 +46,22 @@ fn put_printed(out: &mut [u8], at: usize, answer: Answer)
     put_answer(out, at, held);
 }
 
-// Where the line that starts at i ends: at its line feed, or at the end of the text.
-fn line_end(text: &[u8], i: usize) -> usize
+// Whether none of the n bytes from i on is a line feed. All are looked at: that is faster than to stop.
+fn no_feed(text: &[u8], i: usize, n: usize) -> bool
+    requires { ⌜ i + n ≤ length (now text) ⌝ }
+    ensures { λ r. ⌜ (r ≡ true → n ≤ lineLength (drop i (now (text .entry)))) ⌝ }
+{
+    let mut none = true;
+    let mut k: usize = 0;
+    while k < n {
+        none = none & !(text[i + k] == 10);
+        k += 1;
+    }
+    none
+}
+
+// Where a line ends, byte by byte.
+fn feed_behind(text: &[u8], i: usize) -> usize
     requires { ⌜ i ≤ length (now text) ⌝ }
     ensures { λ r. ⌜ (r ≡ i + lineLength (drop i (now (text .entry)))) × (r ≤ length (now (text .entry))) ⌝ }
 {
@@ -58,6 +73,23 @@ fn line_end(text: &[u8], i: usize) -> usize
         e += 1;
     }
     e
+}
+
+// Where the line that starts at i ends: at its line feed, or at the end of the text. Most lines are as long as a call line.
+fn line_end(text: &[u8], i: usize) -> usize
+    requires { ⌜ i ≤ length (now text) ⌝ }
+    ensures { λ r. ⌜ (r ≡ i + lineLength (drop i (now (text .entry)))) × (r ≤ length (now (text .entry))) ⌝ }
+{
+    if text.len() - i <= LINE_BYTES {
+        return feed_behind(text, i);
+    }
+    if text[i + LINE_BYTES] != 10 {
+        return feed_behind(text, i);
+    }
+    if !no_feed(text, i, LINE_BYTES) {
+        return feed_behind(text, i);
+    }
+    i + LINE_BYTES
 }
 
 // The line from i to e answered, and its answer printed from at on.

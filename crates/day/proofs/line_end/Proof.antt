@@ -1,52 +1,61 @@
 -- `day::line_end` meets its contract. Assumes nothing.
-use Prim.Native.Nat.{_+_, _-_, _≤_}
-use mathlib.Core.Path.{_≡_}
 use native.Mathlib.Omega.{arith}
+use borrow.Author.Tests.{not-false}
 use denote.Ref.{now}
-use lib.ListN.{length, drop}
-use Rattle.day.specs.Day.{lineLength}
-use Rattle.day.proofs.Telling.{line-here, line-on, line-over}
+use Rattle.day.proofs.Telling.{past-end}
 use borrow.Author.Needs.{needs}
 use Rattle.day.proofs.line_end.Statement.{statement}
 use Rattle.day.proofs.line_end.Tie as tie
 
-abbrev Inv-loop : tie.InvT-loop
-Inv-loop text i e₀ e = (i ≤ e) × (e ≤ length text) × (i + lineLength (drop i text) ≡ e + lineLength (drop e text))
+sub-if1 : tie.Need-sub-if1
+sub-if1 c = search needs
 
-abbrev μ-loop : tie.MeasureT-loop
-μ-loop text i e₀ e = length text - e
+feed-behind-requires : tie.Need-feed-behind-requires
+feed-behind-requires c κs = search needs
 
-loop-holds : tie.Need-loop-holds Inv-loop μ-loop
-loop-holds c = search needs
+returns : tie.Need-returns
+returns c = search needs
 
-shared-slice-read-if1 : tie.Need-shared-slice-read-if1 Inv-loop μ-loop
-shared-slice-read-if1 c = search needs
+add-if2 : tie.Need-add-if2
+add-if2 c = search needs
 
-returns : tie.Need-returns Inv-loop μ-loop
-returns c = (omega (arith, c .before .before .before .loop .inv .2, line-here (now (c .before .before .before .before .args .text)) (c .before .before .before .loop .e) (c .before .before .loop-test .taken) (c .if1 .taken)), omega arith)
+shared-slice-read-if2 : tie.Need-shared-slice-read-if2
+shared-slice-read-if2 c = search needs
 
-add-e : tie.Need-add-e Inv-loop μ-loop
-add-e c = search needs
+feed-behind-requires-2 : tie.Need-feed-behind-requires-2
+feed-behind-requires-2 c κs = search needs
 
-loop-less : tie.Need-loop-less Inv-loop μ-loop
-loop-less c = search needs
+returns-2 : tie.Need-returns-2
+returns-2 c = search needs
 
-loop-again : tie.Need-loop-again Inv-loop μ-loop
-loop-again c = (omega arith, omega arith, omega (arith, c .before .before .before .loop .inv .2, line-on (now (c .before .before .before .before .args .text)) (c .before .before .before .loop .e) (c .before .before .loop-test .taken) (c .if1 .left)))
+no-feed-requires : tie.Need-no-feed-requires
+no-feed-requires c κs = search needs
 
-returns-2 : tie.Need-returns-2 Inv-loop μ-loop
-returns-2 c = (omega (arith, c .before .loop .inv .2, line-over (now (c .before .before .args .text)) (c .before .loop .e) (c .loop-test .left)), omega arith)
+feed-behind-requires-3 : tie.Need-feed-behind-requires-3
+feed-behind-requires-3 c κs = search needs
+
+returns-3 : tie.Need-returns-3
+returns-3 c = search needs
+
+add-result : tie.Need-add-result
+add-result c = search needs
+
+returns-4 : tie.Need-returns-4
+returns-4 c = (past-end (now (c .before .before .before .before .before .before .args .text)) (c .before .before .before .before .before .before .args .i) 38 (c .before .no-feed .ensures (not-false (c .before .no-feed .result) (c .if3 .left))) (omega arith) (c .before .before .if2 .left), omega arith)
 
 pub line-end-spec : {M : Type 1} → statement M
 line-end-spec =
     tie.close
     (tie.spec
-    Inv-loop
-    μ-loop
-    loop-holds
-    shared-slice-read-if1
+    sub-if1
+    feed-behind-requires
     returns
-    add-e
-    loop-less
-    loop-again
-    returns-2)
+    add-if2
+    shared-slice-read-if2
+    feed-behind-requires-2
+    returns-2
+    no-feed-requires
+    feed-behind-requires-3
+    returns-3
+    add-result
+    returns-4)
