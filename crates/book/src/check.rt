@@ -15,7 +15,7 @@ use crate::layout::MONEY_WORDS;
 use crate::layout::PLACE_WORDS;
 use crate::layout::PLACES;
 use crate::places::Place;
-use rules::kinds::price_ok;
+use kinds::price_ok;
 use rules::limits::TOP_MONEY;
 use rules::limits::TOP_ORDER;
 use rules::limits::TOP_QUANTITY;

@@ -18,7 +18,7 @@ use Rattle.rules.specs.declared.calls.Call.{Call}
 use Rattle.rules.specs.declared.calls.Answer.{Answer}
 use Rattle.columns.specs.Pastes.{chain-on}
 use Rattle.columns.specs.Laws.{length-marked}
-use Rattle.gate.specs.Step.{Memory, Stepped, step}
+use Rattle.claim.specs.Step.{Memory, Stepped, step}
 use Rattle.callfile.specs.Lines.{readLine, answerText, answerFits, answerPut}
 use Rattle.callfile.specs.declared.reading.Line.{Line}
 use Rattle.day.specs.declared.Progress.{Progress}

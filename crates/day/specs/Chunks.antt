@@ -14,7 +14,7 @@ use lib.Seq.{take-append-le, drop-append-le, drop-drop, length-take-le, take-app
 use Rattle.rules.specs.Tests.{pick}
 use Rattle.rules.specs.Calls.{refused}
 use Rattle.rules.specs.Refusals.{MALFORMED}
-use Rattle.gate.specs.Step.{Memory, Stepped}
+use Rattle.claim.specs.Step.{Memory, Stepped}
 use Rattle.callfile.specs.Lines.{columnsFormed, isCall, lineOf, lineFormed, readLine}
 use Rattle.day.specs.Day.{lineStep, printed, lineLength, isWhole, firstLine, behindLine, Told, noneTold, before, told}
 

@@ -13,7 +13,7 @@ use Rattle.rules.specs.Orders.{shanghai}
 use Rattle.rules.specs.Calls.{refused}
 use Rattle.rules.specs.Refusals.{MALFORMED}
 use Rattle.rules.specs.declared.calls.Answer.{Answer}
-use Rattle.gate.specs.Step.{Memory, Stepped, step}
+use Rattle.claim.specs.Step.{Memory, Stepped, step}
 use Rattle.day.specs.declared.Progress.{Progress}
 use Rattle.callfile.specs.Lines.{readLine, answerText}
 

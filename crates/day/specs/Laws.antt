@@ -9,7 +9,7 @@ use lib.Dec.{leb, ltb}
 use lib.ListN.{length, take, drop, length-drop}
 use lib.Seq.{length-take-le}
 use Rattle.rules.specs.Tests.{pick}
-use Rattle.gate.specs.Step.{Memory, Stepped}
+use Rattle.claim.specs.Step.{Memory, Stepped}
 use Rattle.day.specs.Day.{lineStep, lineLength, isWhole, firstLine, behindLine, Told, noneTold, before, told, keptBytes}
 
 -- the lines told are bytes of the text

@@ -1,15 +1,15 @@
 // One function over all eleven calls, for every call and every lent memory.
 ghost use mathlib.Core.Path.{_≡_};
 ghost use Rattle.rules.specs.Orders.{shanghai};
-ghost use Rattle.gate.specs.Step.{memory, step};
-use crate::guard::guarded_attach;
-use crate::guard::guarded_close;
-use crate::guard::guarded_detach;
-use crate::guard::guarded_enrol;
-use crate::guard::guarded_own_quota;
-use crate::guard::guarded_raise;
-use crate::guard::guarded_regular;
-use crate::guard::guarded_withdraw;
+ghost use Rattle.claim.specs.Step.{memory, step};
+use guard::guarded_attach;
+use guard::guarded_close;
+use guard::guarded_detach;
+use guard::guarded_enrol;
+use guard::guarded_own_quota;
+use guard::guarded_raise;
+use guard::guarded_regular;
+use guard::guarded_withdraw;
 use rules::calls::Answer;
 use rules::calls::Call;
 
@@ -47,13 +47,13 @@ pub fn call(register: &mut [u64], book: &mut [u64], places: &mut [u64], c: Call)
             kind,
             price,
             quantity,
-        } => orders::calls::order(register, book, places, unit, kind, price, quantity),
+        } => trading::calls::order(register, book, places, unit, kind, price, quantity),
         Call::Fill {
             order,
             price,
             quantity,
-        } => orders::calls::fill(register, book, places, order, price, quantity),
-        Call::Cancel { order } => orders::calls::cancel(register, book, places, order),
+        } => trading::calls::fill(register, book, places, order, price, quantity),
+        Call::Cancel { order } => trading::calls::cancel(register, book, places, order),
         Call::Close => guarded_close(register, book, places),
     }
 }

@@ -5,9 +5,9 @@ ghost use lib.ListN.{length};
 use day::answer_lines;
 use day::answer_rest;
 use day::keep_rest;
-use gate::opening::open;
 use lister::write;
 use listing::lines::ROW;
+use opening::open;
 use quota::asks::groups_enrolled;
 
 // The first n bytes, to standard output.

@@ -15,9 +15,9 @@ use Rattle.rules.specs.declared.calls.Call.{Call}
 use Rattle.history.specs.Past.{History, atOpening, moneyOf}
 use Rattle.history.specs.Past as past
 use Rattle.history.specs.Runs.{after}
-use Rattle.gate.specs.Step.{Memory}
-use Rattle.gate.specs.Opening.{placesLent, openRefusal}
-use Rattle.gate.specs.Demand.{run, opened}
+use Rattle.claim.specs.Step.{Memory}
+use Rattle.claim.specs.Opening.{placesLent, openRefusal}
+use Rattle.claim.specs.Demand.{run, opened}
 use Rattle.rows.specs.Row.{signedNet}
 use Rattle.rows.specs.declared.Row.{Row}
 use Rattle.listing.specs.Text.{listingText, listingKept}

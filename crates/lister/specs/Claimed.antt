@@ -31,12 +31,12 @@ use Rattle.book.specs.Check.{bookOk}
 use Rattle.book.specs.Known.{book-known}
 use Rattle.orders.specs.Booking.{moneyFits}
 use Rattle.orders.specs.Host.{hostOk}
-use Rattle.gate.specs.Step.{Memory}
-use Rattle.gate.specs.Opening.{placesLent, openRefusal}
-use Rattle.gate.specs.Demand.{run, opened, RowIs}
-use Rattle.gate.specs.QuotaSim.{group-counts}
-use Rattle.gate.specs.OrderSums.{money-fits}
-use Rattle.gate.specs.Theorem.{Sim, run-sim, opened-sim, row-is}
+use Rattle.claim.specs.Step.{Memory}
+use Rattle.claim.specs.Opening.{placesLent, openRefusal}
+use Rattle.claim.specs.Demand.{run, opened, RowIs}
+use Rattle.claim.specs.QuotaSim.{group-counts}
+use Rattle.claim.specs.OrderSums.{money-fits}
+use Rattle.claim.specs.Theorem.{Sim, run-sim, opened-sim, row-is}
 use Rattle.rows.specs.Row.{signedNet, classKept, atMost, limitsKept, rowObeys, rowKept, madeRow, shownRow, rowAt, shown-kept}
 use Rattle.rows.specs.declared.Row.{Row}
 use Rattle.rows.specs.declared.RowRead.{RowRead}

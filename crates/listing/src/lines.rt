@@ -4,24 +4,23 @@ ghost use mathlib.Core.Bool.{true};
 ghost use Prim.Native.Nat.{_+_, _≤_};
 ghost use lib.ListN.{length};
 ghost use lib.Seq.{paste};
-ghost use Rattle.columns.specs.Column.{part};
 ghost use Rattle.rows.specs.Row.{rowKept};
-ghost use Rattle.listing.specs.Text.{limitPut, limitsPut, rowText, limitOf, rowIn, readLine, rowPut};
+ghost use Rattle.listing.specs.Text.{limitPut, limitsPut, rowText, limitOf, readLine, rowPut};
 use columns::bytes::put_text;
 use columns::bytes::same_at;
 use columns::reading::Optional;
-use columns::reading::optional_at;
-use columns::reading::plain_at;
-use columns::reading::signed_at;
-use columns::written::put_optional;
-use columns::written::put_plain;
-use columns::written::put_signed;
+use decimal::written::put_optional;
+use decimal::written::put_plain;
+use decimal::written::put_signed;
 use rows::Row;
 use rows::row_kept;
 use rules::kinds::Money;
 use rules::money::Millions;
 use rules::money::Mils;
 use rules::quotas::Limit;
+use scan::optional_at;
+use scan::plain_at;
+use scan::signed_at;
 
 // "code 5 columns, class 2, maximum 8, own quota 8, net 21, open buys 21, bought 21, sold 21, line feed"
 pub const ROW: usize = 108;
@@ -133,35 +132,4 @@ pub fn read_line(line: &[u8]) -> Line
     };
     let good = (line.len() == ROW) & (formed & row_kept(row));
     Line { good, row }
-}
-
-// What the line from at on says.
-pub(crate) fn line_at(text: &[u8], at: usize) -> Line
-    requires { ⌜ at + 108 ≤ length (now text) ⌝ }
-    ensures { λ r. ⌜ r ≡ readLine (part (now (text .entry)) at 108) ⌝ }
-{
-    let end = at + ROW;
-    let line = &text[at..end];
-    read_line(line)
-}
-
-// Its code alone, and its class alone.
-pub(crate) fn code_at(text: &[u8], at: usize) -> u64
-    requires { ⌜ at + 108 ≤ length (now text) ⌝ }
-    ensures { λ r. ⌜ r ≡ (rowIn (part (now (text .entry)) at 108)) .code ⌝ }
-{
-    let end = at + ROW;
-    let line = &text[at..end];
-    let code = plain_at(line, 0, 5);
-    code.number
-}
-
-pub(crate) fn class_at(text: &[u8], at: usize) -> u64
-    requires { ⌜ at + 108 ≤ length (now text) ⌝ }
-    ensures { λ r. ⌜ r ≡ (rowIn (part (now (text .entry)) at 108)) .class ⌝ }
-{
-    let end = at + ROW;
-    let line = &text[at..end];
-    let class = plain_at(line, 5, 2);
-    class.number
 }

@@ -11,14 +11,14 @@ use book::totals::places_of;
 use quota::asks::group_of_unit;
 use quota::asks::is_attached;
 use quota::asks::own_in_force_of;
+use reasons::trading::cancel_refusal;
+use reasons::trading::fill_refusal;
+use reasons::trading::order_refusal;
 use rules::money::Mils;
 use rules::refusals::UNSOUND;
 use rules::refusals::first;
 use rules::trading::OrderReads;
 use rules::trading::PlaceReads;
-use rules::trading::cancel_refusal;
-use rules::trading::fill_refusal;
-use rules::trading::order_refusal;
 
 fn reads_of_order(register: &[u64], book: &[u64], unit: u64) -> OrderReads
     ensures { λ r. ⌜ r ≡ orderReads (now (register .entry)) (now (book .entry)) unit ⌝ }

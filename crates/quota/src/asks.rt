@@ -1,11 +1,11 @@
 // What the order layer may ask of a register. It knows the quota layer by these promises and nothing more.
 ghost use mathlib.Core.Path.{_≡_};
 ghost use Rattle.quota.specs.Asks.{isSound, groupsEnrolled, isEnrolled, isAttached, groupOfUnit, ownInForce};
-use register::check::register_ok;
-use register::groups::group_at;
-use register::groups::group_count;
+use groups::group_at;
+use groups::group_count;
+use maxima::own_in_force;
 use rules::quotas::Limit;
-use rules::quotas::own_in_force;
+use soundness::register_ok;
 
 // Every figure of the register is in its range.
 pub fn is_sound(register: &[u64]) -> bool
@@ -32,14 +32,14 @@ pub fn is_enrolled(register: &[u64], group: u64) -> bool
 pub fn is_attached(register: &[u64], unit: u64) -> bool
     ensures { λ r. ⌜ r ≡ isAttached (now (register .entry)) unit ⌝ }
 {
-    register::units::is_attached(register, unit)
+    units::is_attached(register, unit)
 }
 
 // The group of an attached unit; 0 where it is not attached.
 pub fn group_of_unit(register: &[u64], unit: u64) -> u64
     ensures { λ r. ⌜ r ≡ groupOfUnit (now (register .entry)) unit ⌝ }
 {
-    register::units::group_of_unit(register, unit)
+    units::group_of_unit(register, unit)
 }
 
 // A group's own quota in force.

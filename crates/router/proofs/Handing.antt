@@ -15,7 +15,7 @@ use Rattle.rules.specs.declared.calls.Call.{Call}
 use Rattle.rules.specs.declared.calls.Answer.{Answer}
 use Rattle.words.specs.Words.{splice, stored}
 use Rattle.quota.specs.Asks.{groupsEnrolled}
-use Rattle.gate.specs.Step.{Memory, step}
+use Rattle.claim.specs.Step.{Memory, step}
 use Rattle.rows.specs.Row.{rowOf}
 use Rattle.rows.specs.declared.Row.{Row}
 use Rattle.rows.specs.declared.RowRead.{RowRead}

@@ -21,10 +21,10 @@ use Rattle.words.specs.Words.{splice}
 use Rattle.register.specs.Layout.{groupCount, groupAt}
 use Rattle.quota.specs.Asks.{groupsEnrolled, isEnrolled, ownInForce}
 use Rattle.book.specs.Layout.{moneyAt}
-use Rattle.gate.specs.Step.{Memory}
-use Rattle.gate.specs.Opening.{placesLent, openRefusal}
-use Rattle.gate.specs.Demand.{run, opened}
-use Rattle.gate.specs.Theorem.{Sim, run-sim, opened-sim, demand}
+use Rattle.claim.specs.Step.{Memory}
+use Rattle.claim.specs.Opening.{placesLent, openRefusal}
+use Rattle.claim.specs.Demand.{run, opened}
+use Rattle.claim.specs.Theorem.{Sim, run-sim, opened-sim, demand}
 use Rattle.rows.specs.Row.{rowObeys, rowKept, noRow, refusedRow, madeRow, shownRow, rowRefusal, rowAt, rowOf}
 use Rattle.rows.specs.declared.Row.{Row}
 use Rattle.rows.specs.declared.RowRead.{RowRead}

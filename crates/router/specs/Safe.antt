@@ -35,7 +35,7 @@ use Rattle.rows.specs.Row.{rowRefusal, rowOf}
 use Rattle.listing.specs.Text.{listingKept}
 use Rattle.lister.specs.Listed.{gateRows, listRefusal}
 use Rattle.router.specs.Handed.{handedRefusal}
-use Rattle.gate.specs.Step.{Memory, Stepped, memory, bookSound, step}
+use Rattle.claim.specs.Step.{Memory, Stepped, memory, bookSound, step}
 
 -- "A refusal returns its number alone; gate, places and buffers keep their contents."
 abbrev pub Alone : Memory → Stepped → Type 0

@@ -5,11 +5,11 @@ ghost use mathlib.Core.Bool.{true};
 ghost use Rattle.orders.specs.Booking.{moneyFits};
 ghost use Rattle.rows.specs.Row.{signedNet, madeRow, classKept, atMost, limitsKept, rowObeys, agree as agreeOf, netKept, rowKept, refusedRow, shownRow, rowRefusal, rowAt, rowOf};
 use book::totals::money_at;
-use orders::booking::money_fits;
+use groups::group_at;
+use maxima::is_none;
 use orders::host::host_ok;
 use quota::asks::is_enrolled;
 use quota::asks::own_in_force_of;
-use register::groups::group_at;
 use rules::kinds::Money;
 use rules::limits::BROKERAGE;
 use rules::limits::TOP_CLASS;
@@ -19,11 +19,11 @@ use rules::limits::TOP_QUOTA;
 use rules::money::Millions;
 use rules::money::Mils;
 use rules::quotas::Limit;
-use rules::quotas::is_none;
 use rules::refusals::NOT_THERE;
 use rules::refusals::OUT_OF_RANGE;
 use rules::refusals::UNSOUND;
 use rules::refusals::first;
+use trading::booking::money_fits;
 
 // Net as sign and size: below 0, or not.
 pub struct Net {

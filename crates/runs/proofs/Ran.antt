@@ -15,8 +15,8 @@ use Rattle.rules.specs.Refusals.{UNSOUND, unlessRefused}
 use Rattle.rules.specs.declared.calls.Call.{Call}
 use Rattle.rules.specs.declared.calls.Answer.{Answer}
 use Rattle.words.specs.Words.{splice, stored}
-use Rattle.gate.specs.Step.{Memory, step}
-use Rattle.gate.specs.Demand.{run, answersOf}
+use Rattle.claim.specs.Step.{Memory, step}
+use Rattle.claim.specs.Demand.{run, answersOf}
 use Rattle.runs.specs.Runs.{callAt, decoded, callCount, callsOf, answerWords, runRefusal, runMemory, runAnswers}
 
 -- one call more at the end of a list

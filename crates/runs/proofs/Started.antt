@@ -8,10 +8,10 @@ use Rattle.rules.specs.Refusals.{unlessRefused}
 use Rattle.rules.specs.Laws.{where-refused, where-accepted}
 use Rattle.history.specs.Past.{atOpening}
 use Rattle.history.specs.Runs.{answers}
-use Rattle.gate.specs.Step.{Memory, memory}
-use Rattle.gate.specs.Opening.{placesLent, openRefusal, freshRegister, freshBook, openRegister, openBook}
-use Rattle.gate.specs.Demand.{run, opened}
-use Rattle.gate.specs.Theorem.{demand}
+use Rattle.claim.specs.Step.{Memory, memory}
+use Rattle.claim.specs.Opening.{placesLent, openRefusal, freshRegister, freshBook, openRegister, openBook}
+use Rattle.claim.specs.Demand.{run, opened}
+use Rattle.claim.specs.Theorem.{demand}
 use Rattle.runs.specs.Runs.{callsOf, answerWords, runRefusal, runMemory, runAnswers}
 use Rattle.runs.specs.FromOpening.{startRefusal, FromOpening}
 use Rattle.runs.specs.Corollaries.{run-answers-as-history, run-memory-as-claimed}

@@ -12,10 +12,10 @@ use Rattle.rules.specs.declared.calls.Call.{Call}
 use Rattle.history.specs.Past.{History, atOpening}
 use Rattle.history.specs.Answers.{refusals, answer}
 use Rattle.history.specs.Runs.{after, answers}
-use Rattle.gate.specs.Step.{step}
-use Rattle.gate.specs.Opening.{placesLent, openRefusal}
-use Rattle.gate.specs.Demand.{run, answersOf, opened}
-use Rattle.gate.specs.Theorem.{run-sim, opened-sim, steps, demand}
+use Rattle.claim.specs.Step.{step}
+use Rattle.claim.specs.Opening.{placesLent, openRefusal}
+use Rattle.claim.specs.Demand.{run, answersOf, opened}
+use Rattle.claim.specs.Theorem.{run-sim, opened-sim, steps, demand}
 use Rattle.runs.specs.Runs.{callsOf, answerWords, runRefusal, runMemory, runAnswers}
 
 -- What `runs::run` leaves after an opening, by its contract and the third demand: in the room for the answers, word for word, the

@@ -7,9 +7,9 @@ use Rattle.rules.specs.Orders.{shanghai}
 use Rattle.rules.specs.Refusals.{unlessRefused}
 use Rattle.history.specs.Past.{atOpening}
 use Rattle.history.specs.Runs.{answers}
-use Rattle.gate.specs.Step.{Memory, memory}
-use Rattle.gate.specs.Opening.{placesLent, openRefusal}
-use Rattle.gate.specs.Demand.{run, opened, Demand}
+use Rattle.claim.specs.Step.{Memory, memory}
+use Rattle.claim.specs.Opening.{placesLent, openRefusal}
+use Rattle.claim.specs.Demand.{run, opened, Demand}
 use Rattle.runs.specs.Runs.{callsOf, answerWords, runRefusal}
 
 -- 1 where the words are not five a call or the room is not two a call, or where the opening is refused

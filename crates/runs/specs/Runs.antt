@@ -12,8 +12,8 @@ use Rattle.rules.specs.Codes.{callOf}
 use Rattle.rules.specs.Refusals.{UNSOUND, unlessRefused}
 use Rattle.rules.specs.declared.calls.Call.{Call}
 use Rattle.rules.specs.declared.calls.Answer.{Answer}
-use Rattle.gate.specs.Step.{Memory}
-use Rattle.gate.specs.Demand.{run, answersOf}
+use Rattle.claim.specs.Step.{Memory}
+use Rattle.claim.specs.Demand.{run, answersOf}
 
 -- call i of the words
 unfoldable pub callAt : List ℕ → ℕ → Call

@@ -1,7 +1,7 @@
 -- `day::answer_line` meets its contract. Assumes nothing.
 use denote.Ref.{now}
 use borrow.Author.Tests.{not-true, not-false}
-use Rattle.gate.specs.Step.{memory}
+use Rattle.claim.specs.Step.{memory}
 use Rattle.day.proofs.Telling.{line-malformed, line-called}
 use borrow.Author.Needs.{needs}
 use Rattle.day.proofs.answer_line.Statement.{statement}

@@ -4,7 +4,7 @@ use mathlib.Core.Path.{_≡_, refl, ap}
 use native.Mathlib.Omega.{arith}
 use denote.Ref.{now}
 use lib.ListN.{length}
-use Rattle.gate.specs.Step.{memory}
+use Rattle.claim.specs.Step.{memory}
 use Rattle.day.specs.Day.{told}
 use Rattle.day.proofs.Telling.{Reached, reached-start, reached-on, reached-end, all-answered}
 use borrow.Author.Needs.{needs}

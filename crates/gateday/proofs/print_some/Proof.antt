@@ -3,7 +3,7 @@ use Prim.Native.Nat.{_/_}
 use native.Mathlib.Omega.{arith}
 use denote.Ref.{now}
 use lib.ListN.{length}
-use Rattle.gate.specs.Step.{memory}
+use Rattle.claim.specs.Step.{memory}
 use Rattle.day.specs.Laws.{told-within}
 use borrow.Author.Needs.{needs}
 use Rattle.gateday.proofs.print_some.Statement.{statement}

@@ -1,6 +1,6 @@
 -- `router::ekhurtza_call` meets its contract. Assumes nothing.
 use denote.Ref.{now}
-use Rattle.gate.specs.Step.{memory}
+use Rattle.claim.specs.Step.{memory}
 use Rattle.rules.specs.Codes.{callOf}
 use Rattle.router.proofs.Handing.{called}
 use borrow.Author.Needs.{needs}

@@ -5,8 +5,8 @@ use native.Mathlib.Omega.{arith}
 use denote.Ref.{now}
 use lib.ListN.{length}
 use Rattle.rules.specs.Orders.{shanghai}
-use Rattle.gate.specs.Step.{memory}
-use Rattle.gate.specs.Demand.{run}
+use Rattle.claim.specs.Step.{memory}
+use Rattle.claim.specs.Demand.{run}
 use Rattle.runs.specs.Runs.{decoded, callCount}
 use Rattle.runs.proofs.Ran.{roomAfter, start-memory, start-room, turn-memory, turn-room, run-known, run-refused, run-done}
 use borrow.Author.Needs.{needs}

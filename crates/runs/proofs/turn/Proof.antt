@@ -1,7 +1,7 @@
 -- `runs::turn` meets its contract. Assumes nothing.
 use Prim.Native.Nat.{_*_}
 use denote.Ref.{now}
-use Rattle.gate.specs.Step.{memory}
+use Rattle.claim.specs.Step.{memory}
 use Rattle.runs.specs.Runs.{callAt}
 use Rattle.runs.proofs.Ran.{turned}
 use borrow.Author.Needs.{needs}

@@ -1,8 +1,8 @@
 -- `gate::calls::call` meets its contract. Assumes nothing.
 use mathlib.Core.Path.{refl}
 use denote.Ref.{now}
-use Rattle.gate.specs.Step.{step}
-use Rattle.gate.proofs.Guarded.{same-memory}
+use Rattle.claim.specs.Step.{step}
+use Rattle.guard.proofs.Guarded.{same-memory}
 use borrow.Author.Needs.{needs}
 use Rattle.gate.proofs.calls.call.Statement.{statement}
 use Rattle.gate.proofs.calls.call.Tie as tie

@@ -1,0 +1,437 @@
+-- The proof of the third demand. Assumes nothing.
+use Prim.Native.Nat.{ℕ, zero, suc, _+_, _*_, _-_, _≤_, _<_}
+use mathlib.Core.Path.{_≡_, refl, sym, ap, _∙_}
+use mathlib.Core.Bool.{Bool, true, false, not, _&&_}
+use mathlib.Core.Logic.{_≢_, _↔_}
+use mathlib.Core.List.{List, [], _∷_, _++_}
+use native.Mathlib.Omega.{arith}
+use borrow.Author.Tests.{eqb-true, ltb-true, lt-ltb, lt-leb, not-false}
+use lib.Dec.{eqb, ltb, leb}
+use lib.IntN.{ℤ, pos}
+use lib.Signed.{ltZ}
+use lib.ListN.{length, getD, replicate, length-replicate}
+use Rattle.rules.specs.Tests.{pick, both, within-true}
+use Rattle.rules.specs.Sums.{when, total}
+use Rattle.rules.specs.Limits.{isPlaces}
+use Rattle.rules.specs.Money.{milsOf, amount}
+use Rattle.rules.specs.Quotas.{inForce}
+use Rattle.rules.specs.Orders.{Rule, shanghai, stops, isBuy, netOf, below-pos}
+use Rattle.rules.specs.Calls.{inRange, accepted, refused}
+use Rattle.rules.specs.Refusals.{UNSOUND, refusal, unlessRefused}
+use Rattle.rules.specs.Lists.{orderRules}
+use Rattle.rules.specs.Laws.{clear, order-rises}
+use Rattle.rules.specs.declared.money.Millions.{Millions}
+use Rattle.rules.specs.declared.money.Mils.{Mils}
+use Rattle.rules.specs.declared.quotas.Limit.{Limit}
+use Rattle.rules.specs.declared.quotas.Limit.the-variants.{Nothing, At}
+use Rattle.rules.specs.declared.quotas.Quota.{Quota}
+use Rattle.rules.specs.declared.kinds.Money.{Money}
+use Rattle.rules.specs.declared.calls.Call.{Call}
+use Rattle.rules.specs.declared.calls.Call.the-variants.{Enrol, Attach, Detach, Regular, Raise, Withdraw, OwnQuota, Order, Fill, Cancel, Close}
+use Rattle.rules.specs.declared.calls.Answer.{Answer}
+use Rattle.history.specs.Past.{History, atOpening, moneyOf, netIn}
+use Rattle.history.specs.Past as past
+use Rattle.history.specs.Answers.{isAttached, groupOf, orderReads, refusalOf, refusals, numberGiven, answer}
+use Rattle.history.specs.Runs.{accept, next, after, answers}
+use Rattle.history.specs.Laws.{never-unsound}
+use Rattle.quota.specs.Asks as asks
+use Rattle.quota.specs.Calls as quota
+use Rattle.quota.specs.Kept as kept
+use Rattle.book.specs.Check.{bookOk}
+use Rattle.book.specs.Layout.{acceptedOf}
+use Rattle.book.specs.Known.{InMoney, known-book}
+use Rattle.register.specs.Layout.{groupCount}
+use Rattle.orders.specs.Host.{hostOk}
+use Rattle.orders.specs.Calls as orders
+use Rattle.orders.specs.Kept as booked
+use Rattle.claim.specs.Step.{Memory, Stepped, memory, bookSound, onRegister, closing, closingSound, step}
+use Rattle.claim.specs.Relation.{QuotaSim, OrderSim}
+use Rattle.claim.specs.QuotaSim as quotas
+use Rattle.claim.specs.OrderSums.{more-here}
+use Rattle.claim.specs.OrderSim as books
+use Rattle.claim.specs.Opening.{placesLent, openRefusal, freshRegister, freshBook, openRegister, openBook}
+use Rattle.claim.specs.Demand.{run, answersOf, opened, RowIs, BelowOwn, DemandBy, Demand, ThirdDemand}
+
+-- a gate's memory stands for a history
+pub record Sim (N : ℕ) (h : History) (m : Memory) : Type 0 where
+  pub quota : QuotaSim h (m .register)
+  pub order : OrderSim N h (m .book) (m .places)
+  pub host : hostOk (m .register) (m .book) (m .places) ≡ true
+
+-- what a step has to show
+pub record Steps (N : ℕ) (rule : Rule) (h : History) (m : Memory) (c : Call) : Type 0 where
+  pub same : (step rule m c) .answer ≡ answer N rule h c
+  pub sim : Sim N (next N rule h c) ((step rule m c) .memory)
+
+asked : (h : History) (rs : List ℕ) → QuotaSim h rs → books.Asked h rs
+asked h rs s = record {
+  sound = quotas.asks-sound h rs s;
+  enrolled = quotas.asks-groups h rs s;
+  attached-same = quotas.asks-attached h rs s;
+  group-same = quotas.asks-group h rs s;
+  own-same = quotas.asks-own h rs s;
+}
+
+book-sound : (rs bs ps : List ℕ) → hostOk rs bs ps ≡ true → bookSound rs bs ps ≡ true
+unfolding hostOk bookSound
+book-sound rs bs ps e = both (asks.isSound rs) (bookOk bs ps (asks.groupsEnrolled rs)) e .1
+
+module _ (N : ℕ) (rule : Rule) (h : History) (m : Memory) (s : Sim N h m) where
+  -- calls 1 to 7: a refusal that is the history's, a register that is kept, orders that are left alone
+  on-register : (c : Call) (q n : ℕ) (rs′ : List ℕ) → q ≡ refusalOf N rule h c → n ≡ numberGiven N rule h c
+      → (q ≡ 0 → QuotaSim (accept h c) rs′) → (q ≢ 0 → rs′ ≡ m .register) → OrderSim N (accept h c) (m .book) (m .places)
+      → ((onRegister m (unlessRefused q (accepted n) (refused q)) rs′) .answer ≡ answer N rule h c)
+      × Sim N (next N rule h c) ((onRegister m (unlessRefused q (accepted n) (refused q)) rs′) .memory)
+  unfolding answer next
+  on-register c q n rs′ e f k u o =
+      rw (book-sound (m .register) (m .book) (m .places) (s .host), ← e, ← f) (refl, go q refl)
+    where
+      go : (r : ℕ) → q ≡ r → Sim N (unlessRefused r (accept h c) h) (memory rs′ (m .book) (m .places))
+      go zero z = record {
+        quota = k z;
+        order = o;
+        host = books.host-again N h (m .register) (m .book) (m .places) (s .host) (s .order) rs′ (quotas.asks-sound (accept h c) rs′ (k z));
+      }
+      go (suc r) z =
+          let d : q ≢ 0 = λ y. omega arith in
+          let x : rs′ ≡ m .register = u d in
+          rw x s
+
+  -- calls 8 to 10: a refusal that is the history's, book and places that are kept
+  on-orders : (c : Call) (q n : ℕ) (a : Answer) (bs′ ps′ : List ℕ) → q ≡ refusalOf N rule h c → n ≡ numberGiven N rule h c → a ≡ unlessRefused q (accepted n) (refused q)
+      → (refusalOf N rule h c ≡ 0 → OrderSim N (accept h c) bs′ ps′) → (refusalOf N rule h c ≡ 0 → hostOk (m .register) bs′ ps′ ≡ true) → QuotaSim (accept h c) (m .register)
+      → (q ≢ 0 → (bs′ ≡ m .book) × (ps′ ≡ m .places))
+      → (a ≡ answer N rule h c) × Sim N (next N rule h c) (memory (m .register) bs′ ps′)
+  unfolding answer next
+  on-orders c q n a bs′ ps′ e f g o w k u = (rw (← e, ← f) g, rw (← e) (go q refl))
+    where
+      go : (r : ℕ) → q ≡ r → Sim N (unlessRefused r (accept h c) h) (memory (m .register) bs′ ps′)
+      go zero z = record { quota = k; order = o (sym e ∙ z); host = w (sym e ∙ z) }
+      go (suc r) z =
+          let d : q ≢ 0 = λ y. omega arith in
+          let x = u d in
+          rw (x .0, x .1) s
+
+  enrol-steps : (code class : ℕ) → Steps N rule h m (Enrol code class)
+  unfolding step quota.enrolAnswer numberGiven
+  enrol-steps code class =
+      let p = on-register (Enrol code class) (quota.enrolRefusal (m .register) code class) (groupCount (m .register)) (quota.enrolAfter (m .register) code class)
+      (quotas.enrol-same h (m .register) (s .quota) N rule code class)
+      (quotas.group-counts h (m .register) (s .quota))
+      (quotas.enrol-kept h (m .register) (s .quota) code class)
+      (kept.enrol-refused (m .register) code class)
+      (books.enrol-sim N h (m .book) (m .places) (s .order) code class) in
+      record { same = p .0; sim = p .1 }
+
+  attach-steps : (unit group : ℕ) → Steps N rule h m (Attach unit group)
+  unfolding step numberGiven
+  attach-steps unit group =
+      let p = on-register (Attach unit group) (quota.attachRefusal (m .register) unit group) 0 (quota.attachAfter (m .register) unit group)
+      (quotas.attach-same h (m .register) (s .quota) N rule unit group) refl
+      (quotas.attach-kept h (m .register) (s .quota) unit group)
+      (kept.attach-refused (m .register) unit group)
+      (books.attach-sim N h (m .book) (m .places) (s .order) unit group) in
+      record { same = p .0; sim = p .1 }
+
+  detach-steps : (unit : ℕ) → Steps N rule h m (Detach unit)
+  unfolding step numberGiven
+  detach-steps unit =
+      let p = on-register (Detach unit) (quota.detachRefusal (m .register) unit) 0 (quota.detachAfter (m .register) unit)
+      (quotas.detach-same h (m .register) (s .quota) N rule unit) refl
+      (quotas.detach-kept h (m .register) (s .quota) unit)
+      (kept.detach-refused (m .register) unit)
+      (books.detach-sim N h (m .book) (m .places) (s .order) unit) in
+      record { same = p .0; sim = p .1 }
+
+  regular-steps : (declarer group : ℕ) (base amount : Millions) → Steps N rule h m (Regular declarer group base amount)
+  unfolding step numberGiven
+  regular-steps declarer group base amount =
+      let p = on-register (Regular declarer group base amount) (quota.regularRefusal (m .register) declarer group base amount) 0 (quota.regularAfter (m .register) declarer group base amount)
+      (quotas.regular-same h (m .register) (s .quota) N rule declarer group base amount) refl
+      (quotas.regular-kept h (m .register) (s .quota) declarer group base amount)
+      (kept.regular-refused (m .register) declarer group base amount)
+      (books.regular-sim N h (m .book) (m .places) (s .order) declarer group base amount) in
+      record { same = p .0; sim = p .1 }
+
+  raise-steps : (declarer group : ℕ) (figure : Millions) (flag : ℕ) → Steps N rule h m (Raise declarer group figure flag)
+  unfolding step numberGiven
+  raise-steps declarer group figure flag =
+      let p = on-register (Raise declarer group figure flag) (quota.raiseRefusal (m .register) declarer group figure flag) 0 (quota.raiseAfter (m .register) declarer group figure flag)
+      (quotas.raise-same h (m .register) (s .quota) N rule declarer group figure flag) refl
+      (quotas.raise-kept h (m .register) (s .quota) declarer group figure flag)
+      (kept.raise-refused (m .register) declarer group figure flag)
+      (books.raise-sim N h (m .book) (m .places) (s .order) declarer group figure flag) in
+      record { same = p .0; sim = p .1 }
+
+  withdraw-steps : (declarer group : ℕ) → Steps N rule h m (Withdraw declarer group)
+  unfolding step numberGiven
+  withdraw-steps declarer group =
+      let p = on-register (Withdraw declarer group) (quota.withdrawRefusal (m .register) declarer group) 0 (quota.withdrawAfter (m .register) declarer group)
+      (quotas.withdraw-same h (m .register) (s .quota) N rule declarer group) refl
+      (quotas.withdraw-kept h (m .register) (s .quota) declarer group)
+      (kept.withdraw-refused (m .register) declarer group)
+      (books.withdraw-sim N h (m .book) (m .places) (s .order) declarer group) in
+      record { same = p .0; sim = p .1 }
+
+  own-quota-steps : (group : ℕ) (own : Millions) → Steps N rule h m (OwnQuota group own)
+  unfolding step numberGiven
+  own-quota-steps group own =
+      let p = on-register (OwnQuota group own) (quota.ownQuotaRefusal (m .register) group own) 0 (quota.ownQuotaAfter (m .register) group own)
+      (quotas.own-quota-same h (m .register) (s .quota) N rule group own) refl
+      (quotas.own-quota-kept h (m .register) (s .quota) group own)
+      (kept.own-quota-refused (m .register) group own)
+      (books.own-quota-sim N h (m .book) (m .places) (s .order) group own) in
+      record { same = p .0; sim = p .1 }
+
+  know : books.Asked h (m .register)
+  know = asked h (m .register) (s .quota)
+
+  order-steps : (unit kind : ℕ) (price : Mils) (quantity : ℕ) → Steps N rule h m (Order unit kind price quantity)
+  unfolding step numberGiven orders.orderAnswer
+  order-steps unit kind price quantity =
+      let p = on-orders (Order unit kind price quantity) (orders.orderRefusal rule (m .register) (m .book) (m .places) unit kind price quantity) (acceptedOf (m .book) + 1) _
+      (orders.orderBook rule (m .register) (m .book) (m .places) unit kind price quantity) (orders.orderPlaces rule (m .register) (m .book) (m .places) unit kind price quantity)
+      (books.order-same N rule h (m .register) (m .book) (m .places) know (s .host) (s .order) unit kind price quantity)
+      (ap (λ (n : ℕ). n + 1) (s .order .accepted))
+      refl
+      (books.order-sim N rule h (m .register) (m .book) (m .places) know (s .host) (s .order) unit kind price quantity)
+      (books.order-host N rule h (m .register) (m .book) (m .places) know (s .host) (s .order) unit kind price quantity)
+      (quotas.order-kept h (m .register) (s .quota) unit kind price quantity)
+      (booked.order-refused rule (m .register) (m .book) (m .places) unit kind price quantity) in
+      record { same = p .0; sim = p .1 }
+
+  fill-steps : (number : ℕ) (price : Mils) (quantity : ℕ) → Steps N rule h m (Fill number price quantity)
+  unfolding step numberGiven
+  fill-steps number price quantity =
+      let p = on-orders (Fill number price quantity) (orders.fillRefusal (m .register) (m .book) (m .places) number price quantity) 0 _
+      (orders.fillBook (m .register) (m .book) (m .places) number price quantity) (orders.fillPlaces (m .register) (m .book) (m .places) number price quantity)
+      (books.fill-same N rule h (m .register) (m .book) (m .places) know (s .host) (s .order) number price quantity) refl refl
+      (books.fill-sim N rule h (m .register) (m .book) (m .places) know (s .host) (s .order) number price quantity)
+      (books.fill-host N rule h (m .register) (m .book) (m .places) know (s .host) (s .order) number price quantity)
+      (quotas.fill-kept h (m .register) (s .quota) number price quantity)
+      (booked.fill-refused (m .register) (m .book) (m .places) number price quantity) in
+      record { same = p .0; sim = p .1 }
+
+  cancel-steps : (number : ℕ) → Steps N rule h m (Cancel number)
+  unfolding step numberGiven
+  cancel-steps number =
+      let p = on-orders (Cancel number) (orders.cancelRefusal (m .register) (m .book) (m .places) number) 0 _
+      (orders.cancelBook (m .register) (m .book) (m .places) number) (orders.cancelPlaces (m .register) (m .book) (m .places) number)
+      (books.cancel-same N rule h (m .register) (m .book) (m .places) know (s .host) (s .order) number) refl refl
+      (books.cancel-sim N rule h (m .register) (m .book) (m .places) know (s .host) (s .order) number)
+      (books.cancel-host N rule h (m .register) (m .book) (m .places) know (s .host) (s .order) number)
+      (quotas.cancel-kept h (m .register) (s .quota) number)
+      (booked.cancel-refused (m .register) (m .book) (m .places) number) in
+      record { same = p .0; sim = p .1 }
+
+  close-steps : Steps N rule h m Close
+  unfolding step numberGiven answer next refusals
+  close-steps =
+      let k = quotas.close-kept h (m .register) (s .quota) in
+      let e : step rule m Close ≡ record { answer = accepted 0; memory = memory (quota.closeAfter (m .register)) (orders.closedBook (m .book)) (m .places) } =
+      rw (book-sound (m .register) (m .book) (m .places) (s .host), quotas.close-same h (m .register) (s .quota)) in
+      record {
+        same = rw e;
+        sim = rw e (record {
+          quota = k;
+          order = books.close-sim N h (m .register) (m .book) (m .places) (s .host) (s .order);
+          host = books.close-host (m .register) (m .book) (m .places) (s .host) (quota.closeAfter (m .register)) (quotas.asks-sound (accept h Close) (quota.closeAfter (m .register)) k);
+        });
+      }
+
+  pub steps : (c : Call) → Steps N rule h m c
+  steps (Enrol code class) = enrol-steps code class
+  steps (Attach unit group) = attach-steps unit group
+  steps (Detach unit) = detach-steps unit
+  steps (Regular declarer group base amount) = regular-steps declarer group base amount
+  steps (Raise declarer group figure flag) = raise-steps declarer group figure flag
+  steps (Withdraw declarer group) = withdraw-steps declarer group
+  steps (OwnQuota group own) = own-quota-steps group own
+  steps (Order unit kind price quantity) = order-steps unit kind price quantity
+  steps (Fill number price quantity) = fill-steps number price quantity
+  steps (Cancel number) = cancel-steps number
+  steps Close = close-steps
+
+module _ (N : ℕ) (rule : Rule) where
+  pub run-sim : (cs : List Call) (h : History) (m : Memory) → Sim N h m → Sim N (after N rule h cs) (run rule m cs)
+  unfolding after run
+  run-sim [] h m s = s
+  run-sim (c ∷ cs) h m s = run-sim cs (next N rule h c) ((step rule m c) .memory) (steps N rule h m s c .sim)
+
+  run-answers : (cs : List Call) (h : History) (m : Memory) → Sim N h m → answersOf rule m cs ≡ answers N rule h cs
+  unfolding answersOf answers
+  run-answers [] h m s = refl
+  run-answers (c ∷ cs) h m s =
+      let t = steps N rule h m s c in
+      rw (t .same, run-answers cs (next N rule h c) ((step rule m c) .memory) (t .sim))
+
+-- ---- the opening
+
+open-known : (rs bs ps : List ℕ) → openRefusal rs bs ps ≡ 0 → (eqb (length ps) (4 * placesLent ps) ≡ true) × (isPlaces (placesLent ps) ≡ true)
+unfolding openRefusal
+open-known rs bs ps e = go (eqb (length rs) 1_986 && (eqb (length bs) 194 && places)) refl e
+  where
+    places : Bool
+    places = eqb (length ps) (4 * placesLent ps) && isPlaces (placesLent ps)
+
+    go : (t : Bool) → (eqb (length rs) 1_986 && (eqb (length bs) 194 && places)) ≡ t → pick t 0 UNSOUND ≡ 0 → (eqb (length ps) (4 * placesLent ps) ≡ true) × (isPlaces (placesLent ps) ≡ true)
+    go true q z =
+        let a = both (eqb (length rs) 1_986) (eqb (length bs) 194 && places) q in
+        let b = both (eqb (length bs) 194) places (a .1) in
+        both (eqb (length ps) (4 * placesLent ps)) (isPlaces (placesLent ps)) (b .1)
+    go false q z = absurd (omega arith)
+
+none-in : (g : ℕ) → InMoney (moneyOf atOpening g)
+unfolding moneyOf total
+none-in g = (omega arith, (omega arith, omega arith))
+
+fresh-host : (ps : List ℕ) (N : ℕ) → eqb (length ps) (4 * N) ≡ true → isPlaces N ≡ true → hostOk freshRegister (freshBook N) ps ≡ true
+unfolding hostOk
+fresh-host ps N e i =
+    let w = within-true 1 65_536 N i in
+    let z = books.opening-sim N (freshBook N) ps refl in
+    rw (quotas.asks-sound atOpening freshRegister quotas.opening)
+    (known-book (freshBook N) ps (asks.groupsEnrolled freshRegister) (record {
+      book-length = ap suc (length-replicate {A = ℕ} 193 0);
+      places-low = w .0;
+      places-high = w .1;
+      places-length = eqb-true (length ps) (4 * N) e;
+      accepted-most = omega arith;
+      money = λ g a b. rw (z .money g) (none-in g);
+    }))
+
+pub opened-sim : (rs bs ps : List ℕ) → openRefusal rs bs ps ≡ 0 → Sim (placesLent ps) atOpening (opened rs bs ps)
+unfolding openRegister openBook
+opened-sim rs bs ps e =
+    let k = open-known rs bs ps e in
+    rw e (record {
+      quota = quotas.opening;
+      order = books.opening-sim (placesLent ps) (freshBook (placesLent ps)) ps refl;
+      host = fresh-host ps (placesLent ps) (k .0) (k .1);
+    })
+
+-- ---- what the simulation gives
+
+pub row-is : (N : ℕ) (h : History) (m : Memory) → Sim N h m → (g : ℕ) → g < length (h .groups) → RowIs h m g
+unfolding asks.ownInForce
+row-is N h m s g l =
+    let c = quotas.group-counts h (m .register) (s .quota) in
+    let i : g < groupCount (m .register) = omega arith in
+    let q = quotas.quota-same h (m .register) (s .quota) g i in
+    record {
+      code = quotas.code-same h (m .register) (s .quota) g i;
+      class = quotas.class-same h (m .register) (s .quota) g i;
+      maximum = ap (λ (z : Quota). z .maximum) q;
+      own = ap inForce q;
+      money = s .order .money g;
+      net = ap netOf (s .order .money g);
+    }
+
+-- the refusal of a step is the history's
+step-refusal : (N : ℕ) (rule : Rule) (h : History) (m : Memory) → Sim N h m → (c : Call) → (step rule m c) .answer .refusal ≡ refusalOf N rule h c
+unfolding answer
+step-refusal N rule h m s c = ap (λ (a : Answer). a .refusal) (steps N rule h m s c .same) ∙ go (refusalOf N rule h c)
+  where
+    go : (r : ℕ) → (unlessRefused r (accepted (numberGiven N rule h c)) (refused r)) .refusal ≡ r
+    go zero = refl
+    go (suc r) = refl
+
+demand-by : (rule : Rule) (N : ℕ) (m : Memory) → Sim N atOpening m → (cs : List Call) → DemandBy rule N m cs
+demand-by rule N m s cs =
+    let t = run-sim N rule cs atOpening m s in
+    record {
+      same-answers = run-answers N rule cs atOpening m s;
+      same-groups = quotas.group-counts (after N rule atOpening cs) ((run rule m cs) .register) (t .quota);
+      rows = λ g l. row-is N (after N rule atOpening cs) (run rule m cs) t g l;
+      never-one = λ before c rest e. λ z.
+          never-unsound N rule (after N rule atOpening before) c (sym (step-refusal N rule (after N rule atOpening before) (run rule m before) (run-sim N rule before atOpening m s) c) ∙ z);
+    }
+
+-- ---- buys: the history's list at a well-formed buy of an attached unit with a place free
+
+-- own quota in force, whether the rule lets the buy pass
+passing : (kind : ℕ) (own : Limit) (net : ℤ) (price : Mils) (quantity unit : ℕ) (money : Money) → isBuy kind ≡ true → inRange (Order unit kind price quantity) ≡ true → netOf money ≡ net
+    → (refusal (orderRules shanghai unit kind price quantity (record { attached = true; own = own; money = money; full = false })) ≡ 0) ↔ ((o : Millions) × (own ≡ At o) × (ltZ net (pos ((milsOf o) .0)) ≡ true))
+unfolding orderRules stops shanghai
+passing kind Nothing net price quantity unit money b r n = (
+  (λ z. absurd (omega (arith, fifteen z))),
+  (λ z. let e = z .1 in let y : _≡_ {A = ℕ} 0 1 = cc in absurd (omega arith)),
+)
+  where
+    fifteen : refusal (orderRules shanghai unit kind price quantity (record { attached = true; own = Nothing; money = money; full = false })) ≡ 0 → _≡_ {A = ℕ} 15 0
+    fifteen z = rw (r, b) at z
+passing kind (At o) net price quantity unit money b r n = (
+  (λ z. (o, refl, pass (rw (r, b, n) at z))),
+  (λ z. back z),
+)
+  where
+    pass : _≡_ {A = ℕ} (pick (not (ltZ net (pos ((milsOf o) .0)))) 16 0) 0 → ltZ net (pos ((milsOf o) .0)) ≡ true
+    pass = go (ltZ net (pos ((milsOf o) .0)))
+      where
+        go : (t : Bool) → _≡_ {A = ℕ} (pick (not t) 16 0) 0 → t ≡ true
+        go true z = refl
+        go false z = absurd (omega arith)
+
+    back : ((o′ : Millions) × (At o ≡ At o′) × (ltZ net (pos ((milsOf o′) .0)) ≡ true)) → refusal (orderRules shanghai unit kind price quantity (record { attached = true; own = At o; money = money; full = false })) ≡ 0
+    back z =
+        let e = z .1 in
+        let k : o ≡ z .0 = cc in
+        let y : ltZ net (pos ((milsOf o) .0)) ≡ true = rw k (z .2) in
+        rw (r, b, n, y)
+
+module _ (N : ℕ) (h : History) (unit kind : ℕ) (price : Mils) (quantity : ℕ) (b : isBuy kind ≡ true) where
+  buy-passes : inRange (Order unit kind price quantity) ≡ true → isAttached h unit ≡ true → length (h .orders) < N → (refusalOf N shanghai h (Order unit kind price quantity) ≡ 0) ↔ BelowOwn h unit
+  unfolding refusals
+  buy-passes r t l =
+      rw (t, lt-leb N (length (h .orders)) l)
+      (passing kind (inForce ((past.groupAt h (groupOf h unit)) .quota)) (netIn h (groupOf h unit)) price quantity unit (moneyOf h (groupOf h unit)) b r refl)
+
+  -- an accepted buy: net before it was below the own quota
+  buy-below : (own : Millions) → refusalOf N shanghai h (Order unit kind price quantity) ≡ 0 → inForce ((past.groupAt h (groupOf h unit)) .quota) ≡ At own → ltZ (netIn h (groupOf h unit)) (pos ((milsOf own) .0)) ≡ true
+  unfolding refusals orderRules stops shanghai
+  buy-below own e k =
+      let c = clear 1 (orderRules shanghai unit kind price quantity (orderReads N h unit)) (order-rises shanghai unit kind price quantity (orderReads N h unit)) e in
+      let f : not (ltZ (netIn h (groupOf h unit)) (pos ((milsOf own) .0))) ≡ false = rw (b, k) at (c .1 .1 .1 .0) in
+      not-false (ltZ (netIn h (groupOf h unit)) (pos ((milsOf own) .0))) f
+
+  -- and after it below the own quota and the order's amount
+  buy-crosses : (own : Millions) → refusalOf N shanghai h (Order unit kind price quantity) ≡ 0 → inForce ((past.groupAt h (groupOf h unit)) .quota) ≡ At own
+      → ltZ (netIn (accept h (Order unit kind price quantity)) (groupOf h unit)) (pos ((milsOf own) .0 + (amount price quantity) .0)) ≡ true
+  unfolding accept netOf when
+  buy-crosses own e k =
+      let g : ℕ = groupOf h unit in
+      let m : Money = moneyOf h (groupOf h unit) in
+      let x = more-here h unit kind price quantity (groupOf h unit) in
+      let p : ltb (m .«open» .0 + m .bought .0) ((milsOf own) .0 + m .sold .0) ≡ true = sym (below-pos (m .«open» .0 + m .bought .0) (m .sold .0) ((milsOf own) .0)) ∙ buy-below own e k in
+      let l = ltb-true (m .«open» .0 + m .bought .0) ((milsOf own) .0 + m .sold .0) p in
+      rw (x, b)
+      (below-pos (m .«open» .0 + price .0 * quantity + m .bought .0) (m .sold .0) ((milsOf own) .0 + price .0 * quantity)
+      ∙ lt-ltb (m .«open» .0 + price .0 * quantity + m .bought .0) ((milsOf own) .0 + price .0 * quantity + m .sold .0) (omega arith))
+
+after-one : (N : ℕ) (rule : Rule) (before : List Call) (h : History) (c : Call) → after N rule h (before ++ (c ∷ [])) ≡ next N rule (after N rule h before) c
+unfolding after
+after-one N rule [] h c = refl
+after-one N rule (x ∷ before) h c = after-one N rule before (next N rule h x) c
+
+next-accepted : (N : ℕ) (rule : Rule) (h : History) (c : Call) → refusalOf N rule h c ≡ 0 → next N rule h c ≡ accept h c
+unfolding next
+next-accepted N rule h c e = rw e
+
+-- the third demand
+pub demand : ThirdDemand
+demand rs bs ps o cs =
+    let N : ℕ = placesLent ps in
+    let m : Memory = opened rs bs ps in
+    let s = opened-sim rs bs ps o in
+    record {
+      either-market = demand-by shanghai (placesLent ps) (opened rs bs ps) s cs;
+      buys = λ before unit kind price quantity rest e b r t l.
+          let w = step-refusal (placesLent ps) shanghai (after (placesLent ps) shanghai atOpening before) (run shanghai (opened rs bs ps) before) (run-sim (placesLent ps) shanghai before atOpening (opened rs bs ps) s) (Order unit kind price quantity) in
+          rw w (buy-passes (placesLent ps) (after (placesLent ps) shanghai atOpening before) unit kind price quantity b r t l);
+      crossing = λ before unit kind price quantity rest own e b z k.
+          let H : History = after (placesLent ps) shanghai atOpening before in
+          let w = step-refusal (placesLent ps) shanghai (after (placesLent ps) shanghai atOpening before) (run shanghai (opened rs bs ps) before) (run-sim (placesLent ps) shanghai before atOpening (opened rs bs ps) s) (Order unit kind price quantity) in
+          let y : refusalOf (placesLent ps) shanghai (after (placesLent ps) shanghai atOpening before) (Order unit kind price quantity) ≡ 0 = sym w ∙ z in
+          rw (after-one (placesLent ps) shanghai before atOpening (Order unit kind price quantity), next-accepted (placesLent ps) shanghai (after (placesLent ps) shanghai atOpening before) (Order unit kind price quantity) y)
+          (buy-crosses (placesLent ps) (after (placesLent ps) shanghai atOpening before) unit kind price quantity b own y k);
+    }
