@@ -63,7 +63,7 @@ joined-before s e r q =
     let t : printed (s .answer) ++ (r .text ++ q .text) ≡ (printed (s .answer) ++ r .text) ++ q .text = sym (append-assoc (printed (s .answer)) (r .text) (q .text)) in
     rw (l, u, t) refl
 
-first-told : (n : ℕ) (m : Memory) (t : List ℕ) → isWhole t ≡ true → told (suc n) m t ≡ before (lineStep m (firstLine t)) (lineLength t) (told n ((lineStep m (firstLine t)) .memory) (behindLine t))
+pub first-told : (n : ℕ) (m : Memory) (t : List ℕ) → isWhole t ≡ true → told (suc n) m t ≡ before (lineStep m (firstLine t)) (lineLength t) (told n ((lineStep m (firstLine t)) .memory) (behindLine t))
 unfolding told
 first-told n m t w = rw w refl
 
@@ -114,12 +114,12 @@ open-length (x ∷ a) b w = go (eqb x 10) (λ v. open-length a b v) w
         ap suc (ih (le-ltb (lineLength a) (length a) (omega (arith, l)))) ∙ sym (suc-add (length a) (lineLength b))
 
 -- a line of other than thirty-eight bytes says nothing
-long-malformed : (m : Memory) (line : List ℕ) → 39 ≤ length line → lineStep m line ≡ record { answer = refused MALFORMED; memory = m }
+pub long-malformed : (m : Memory) (line : List ℕ) → 39 ≤ length line → lineStep m line ≡ record { answer = refused MALFORMED; memory = m }
 unfolding lineStep readLine lineFormed
 long-malformed m line h = rw (ne-eqb (length line) 38 (λ e. omega (arith, e))) refl
 
 module _ (a b : List ℕ) (w : isWhole a ≡ false) where
-  whole-later : isWhole (a ++ b) ≡ isWhole b
+  pub whole-later : isWhole (a ++ b) ≡ isWhole b
   whole-later = go (isWhole b) refl
     where
       l : length (a ++ b) ≡ length a + length b
@@ -132,11 +132,11 @@ module _ (a b : List ℕ) (w : isWhole a ≡ false) where
       go true e = lt-ltb (lineLength (a ++ b)) (length (a ++ b)) (omega (arith, l, o, ltb-true (lineLength b) (length b) e)) ∙ sym e
       go false e = le-ltb (lineLength (a ++ b)) (length (a ++ b)) (omega (arith, l, o, ltb-false (lineLength b) (length b) e)) ∙ sym e
 
-  first-later : length (firstLine (a ++ b)) ≡ length a + length (firstLine b)
+  pub first-later : length (firstLine (a ++ b)) ≡ length a + length (firstLine b)
   first-later =
       ap (λ (x : ℕ). length (take x (a ++ b))) (open-length a b w) ∙ ap length (take-append-add a b (lineLength b)) ∙ length-append a (firstLine b)
 
-  behind-later : behindLine (a ++ b) ≡ behindLine b
+  pub behind-later : behindLine (a ++ b) ≡ behindLine b
   behind-later =
       let e : suc (length a + lineLength b) ≡ length a + suc (lineLength b) = omega arith in
       ap (λ (x : ℕ). drop (suc x) (a ++ b)) (open-length a b w) ∙ ap (λ (x : ℕ). drop x (a ++ b)) e ∙ drop-append-add a b (suc (lineLength b))
@@ -180,7 +180,7 @@ long-alike (suc k) m a a′ b w w′ h h′ = go (isWhole b) refl
         record { lines = ap (λ (r : Told). r .lines) p; text = ap (λ (r : Told). r .text) p; memory = ap (λ (r : Told). r .memory) p }
 
 -- no line feed in a text, none in its beginning
-open-take : (n : ℕ) (a : List ℕ) → n ≤ length a → isWhole a ≡ false → isWhole (take n a) ≡ false
+pub open-take : (n : ℕ) (a : List ℕ) → n ≤ length a → isWhole a ≡ false → isWhole (take n a) ≡ false
 open-take n a h w = go (isWhole (take n a)) refl
   where
     go : (t : Bool) → isWhole (take n a) ≡ t → isWhole (take n a) ≡ false

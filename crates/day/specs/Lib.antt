@@ -1,3 +1,5 @@
 pub mod Day
 pub mod Laws
 pub mod Chunks
+pub mod Whole
+pub mod Pieces

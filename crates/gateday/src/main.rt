@@ -1,7 +1,11 @@
 // gateday: call lines from standard input, an answer for each on standard output, and at the end the listing. N is 2,048.
 // What is answered and listed is decided in `day` and `lister`; here is only reading and writing.
+ghost use mathlib.Core.Path.{_≡_};
 ghost use Prim.Native.Nat.{_+_, _≤_};
-ghost use lib.ListN.{length};
+ghost use lib.ListN.{length, drop};
+ghost use Rattle.claim.specs.Step.{memory};
+ghost use Rattle.day.specs.Day.{toldIn};
+ghost use Rattle.day.specs.Pieces.{Done};
 use day::answer_lines;
 use day::answer_rest;
 use day::keep_rest;
@@ -38,7 +42,9 @@ fn print_some(
     out: &mut [u8],
 ) -> usize
     requires { ⌜ from ≤ length (now text) ⌝ }
-    ensures { λ r. ⌜ from + r ≤ length (now (text .entry)) ⌝ }
+    ensures { λ r. ⌜ (from + r ≤ length (now (text .entry)))
+        × (r ≡ (toldIn (now (out .entry)) (memory (now (register .entry)) (now (book .entry)) (now (places .entry))) (drop from (now (text .entry)))) .used)
+        × ((memory (now (register .exit)) (now (book .exit)) (now (places .exit))) ≡ (toldIn (now (out .entry)) (memory (now (register .entry)) (now (book .entry)) (now (places .entry))) (drop from (now (text .entry)))) .memory) ⌝ }
 {
     let progress = answer_lines(register, book, places, &text[from..text.len()], out);
     print(out, progress.written);
@@ -53,7 +59,8 @@ fn print_lines(
     text: &[u8],
     out: &mut [u8],
 ) -> usize
-    ensures { λ r. ⌜ r ≤ length (now (text .entry)) ⌝ }
+    requires { ⌜ 10 ≤ length (now out) ⌝ }
+    ensures { λ r. ⌜ Done (now (text .entry)) (memory (now (register .entry)) (now (book .entry)) (now (places .entry))) r (memory (now (register .exit)) (now (book .exit)) (now (places .exit))) ⌝ }
 {
     let mut from: usize = 0;
     while from < text.len() {
@@ -88,7 +95,9 @@ fn print_day(
     places: &mut [u64],
     input: &mut [u8],
     out: &mut [u8],
-) {
+)
+    requires { ⌜ 10 ≤ length (now out) ⌝ }
+{
     let mut filled: usize = 0;
     let mut turns = u64::MAX;
     while turns > 0 {

@@ -50,6 +50,12 @@ limits-kept Nothing o f l w = refl
 limits-kept (At maximum) Nothing f l w = rw (le-leb 1 (maximum .0) l, le-leb (maximum .0) topQuota f, le-leb (maximum .0) (maximum .0) (omega arith))
 limits-kept (At maximum) (At own) f l w = rw (le-leb 1 (maximum .0) l, le-leb (maximum .0) topQuota f, le-leb (own .0) (maximum .0) w)
 
+-- a history has a row for each group
+pub history-length : (h : History) (i n : ℕ) → length (historyRowsOn h i n) ≡ n
+unfolding historyRowsOn
+history-length h i zero = refl
+history-length h i (suc n) = ap suc (history-length h (suc i) n)
+
 module _ (N : ℕ) (h : History) (m : Memory) (s : Sim N h m) where
   count : groupCount (m .register) ≡ length (h .groups)
   count = group-counts h (m .register) (s .quota)
@@ -132,11 +138,6 @@ module _ (N : ℕ) (h : History) (m : Memory) (s : Sim N h m) where
   unfolding groupsEnrolled
   enrolled = count
 
-  length-on : (i n : ℕ) → length (historyRowsOn h i n) ≡ n
-  unfolding historyRowsOn
-  length-on i zero = refl
-  length-on i (suc n) = ap suc (length-on (suc i) n)
-
   rows-are : gateRows (m .register) (m .book) ≡ historyRows h
   unfolding gateRows historyRows
   rows-are = ap (rowsOn (m .register) (m .book) 0) enrolled ∙ rows-same 0 (length (h .groups)) (omega (arith, count))
@@ -144,7 +145,7 @@ module _ (N : ℕ) (h : History) (m : Memory) (s : Sim N h m) where
   listing-kept : listingKept (gateRows (m .register) (m .book)) ≡ true
   unfolding listingKept gateRows
   listing-kept =
-      let n : length (rowsOn (m .register) (m .book) 0 (groupsEnrolled (m .register))) ≡ length (h .groups) = ap length (ap (rowsOn (m .register) (m .book) 0) enrolled ∙ rows-same 0 (length (h .groups)) (omega (arith, count))) ∙ length-on 0 (length (h .groups)) in
+      let n : length (rowsOn (m .register) (m .book) 0 (groupsEnrolled (m .register))) ≡ length (h .groups) = ap length (ap (rowsOn (m .register) (m .book) 0) enrolled ∙ rows-same 0 (length (h .groups)) (omega (arith, count))) ∙ history-length h 0 (length (h .groups)) in
       let few : groupCount (m .register) ≤ 64 = register-known (m .register) (s .quota .sound) .1 in
       rw (le-leb (length (rowsOn (m .register) (m .book) 0 (groupsEnrolled (m .register)))) 64 (omega (arith, n, few, count))) (ap (λ (x : ℕ). rowsKept (rowsOn (m .register) (m .book) 0 x)) enrolled ∙ all-kept 0 (length (h .groups)) (omega (arith, count)))
 

@@ -31,7 +31,7 @@ use Rattle.rows.specs.declared.RowRead.{RowRead}
 use Rattle.listing.specs.Text.{fresh, rowsKept, listingKept}
 use Rattle.lister.specs.Listed.{rowsOn, gateRows}
 use Rattle.lister.specs.Claim.{historyRow, historyRowsOn, historyRows, ListedAs}
-use Rattle.lister.specs.Claimed.{listing-demand}
+use Rattle.lister.specs.Claimed.{history-length, listing-demand}
 use Rattle.router.specs.Handed.{rowLength, rowWords, handedRefusal, handedRow}
 
 -- the row of group g, by the history
@@ -57,11 +57,6 @@ unfolding historyRowsOn
 history-at h i zero k l = absurd (omega arith)
 history-at h i (suc n) zero l = let e : i ≡ i + 0 = omega arith in ap (historyRow h) e
 history-at h i (suc n) (suc k) l = let e : suc i + k ≡ i + suc k = omega arith in history-at h (suc i) n k (omega arith) ∙ ap (historyRow h) e
-
-history-length : (h : History) (i n : ℕ) → length (historyRowsOn h i n) ≡ n
-unfolding historyRowsOn
-history-length h i zero = refl
-history-length h i (suc n) = ap suc (history-length h (suc i) n)
 
 kept-at : (rows : List Row) (k : ℕ) → k < length rows → rowsKept rows ≡ true → rowKept (getD rows k noRow) ≡ true
 unfolding rowsKept

@@ -51,7 +51,7 @@ part-print-lines-end : tie.Need-part-print-lines-end Inv-loop μ-loop
 part-print-lines-end c = search needs
 
 print-lines-requires : tie.Need-print-lines-requires Inv-loop μ-loop
-print-lines-requires c κs = search needs
+print-lines-requires c κs = omega (arith, c .before .before .before .before .before .before .before .before .before .before .before .before .loop .inv .5, c .before .before .before .before .before .before .before .before .before .before .before .before .before .before .before .before .before .before .pre)
 
 keep-rest-requires : tie.Need-keep-rest-requires Inv-loop μ-loop
 keep-rest-requires c κs = search needs

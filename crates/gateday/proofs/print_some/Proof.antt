@@ -1,10 +1,13 @@
 -- `gateday::print_some` meets its contract. Assumes nothing.
-use Prim.Native.Nat.{_/_}
+use Prim.Native.Nat.{ℕ, _/_}
+use mathlib.Core.Path.{ap, _∙_}
+use mathlib.Core.List.{List}
 use native.Mathlib.Omega.{arith}
 use denote.Ref.{now}
 use lib.ListN.{length}
 use Rattle.claim.specs.Step.{memory}
-use Rattle.day.specs.Laws.{told-within}
+use Rattle.day.specs.Day.{toldIn}
+use Rattle.day.specs.Pieces.{told-inside, cut-all}
 use borrow.Author.Needs.{needs}
 use Rattle.gateday.proofs.print_some.Statement.{statement}
 use Rattle.gateday.proofs.print_some.Tie as tie
@@ -37,7 +40,13 @@ same-length-4 : tie.Need-same-length-4
 same-length-4 c = search needs
 
 returns : tie.Need-returns
-returns c = omega (arith, c .before .before .before .before .before .before .before .before .before .before .answer-lines .ensures .used, told-within (length (now (c .before .before .before .before .before .before .before .before .before .before .before .before .before .before .before .before .before .before .before .before .before .args .out)) / 10) (memory (now (c .before .before .before .before .before .before .before .before .before .before .before .before .before .before .before .before .before .before .before .before .before .args .register)) (now (c .before .before .before .before .before .before .before .before .before .before .before .before .before .before .before .before .before .before .before .before .before .args .book)) (now (c .before .before .before .before .before .before .before .before .before .before .before .before .before .before .before .before .before .before .before .before .before .args .places))) (now (c .before .before .before .before .before .before .before .before .before .before .before .before .before .before .before .before .before .before .before .before .before .args .text)) (c .before .before .before .before .before .before .before .before .before .before .before .before .before .before .before .before .before .before .before .before .before .args .from) (c .before .before .before .before .before .before .before .before .before .before .before .before .before .before .before .before .before .before .before .before .before .pre))
+returns c =
+    let a = c .before .before .before .before .before .before .before .before .before .before .before .before .before .before .before .before .before .before .before .before .before .args in
+    let e = cut-all (now (a .text)) (a .from) in
+    let r = c .before .before .before .before .before .before .before .before .before .before .answer-lines .ensures in
+    let m = memory (now (a .register)) (now (a .book)) (now (a .places)) in
+    let u = r .used ∙ ap (λ (z : List ℕ). (toldIn (now (a .out)) m z) .used) e in
+    (omega (arith, u, told-inside (length (now (a .out)) / 10) m (now (a .text)) (a .from) (c .before .before .before .before .before .before .before .before .before .before .before .before .before .before .before .before .before .before .before .before .before .pre)), u, r .memory ∙ ap (λ (z : List ℕ). (toldIn (now (a .out)) m z) .memory) e)
 
 pub print-some-spec : {M : Type 1} → statement M
 print-some-spec =
