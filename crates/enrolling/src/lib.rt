@@ -2,6 +2,9 @@
 ghost use mathlib.Core.Path.{_≡_};
 ghost use Rattle.rules.specs.Refusals.{answered};
 ghost use Rattle.quota.specs.Calls.{enrolAnswer, enrolAfter, attachRefusal, attachAfter, detachRefusal, detachAfter};
+use admitting::refusal_of_attach;
+use admitting::refusal_of_detach;
+use admitting::refusal_of_enrol;
 use groups::add_group;
 use groups::group_count;
 use records::fresh_group;
@@ -10,9 +13,6 @@ use rules::calls::accepted_as;
 use rules::calls::refused_by;
 use units::add_unit;
 use units::remove_unit;
-use vetting::refusal_of_attach;
-use vetting::refusal_of_detach;
-use vetting::refusal_of_enrol;
 
 // Call 1. Enrol group: given the next group number from 0.
 pub fn enrol(register: &mut [u64], code: u64, class: u64) -> Answer

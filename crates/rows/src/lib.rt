@@ -4,7 +4,7 @@ ghost use mathlib.Core.Path.{_≡_};
 ghost use mathlib.Core.Bool.{true};
 ghost use Rattle.orders.specs.Booking.{moneyFits};
 ghost use Rattle.rows.specs.Row.{signedNet, madeRow, classKept, atMost, limitsKept, rowObeys, agree as agreeOf, netKept, rowKept, refusedRow, shownRow, rowRefusal, rowAt, rowOf};
-use book::totals::money_at;
+use bookmoney::money_at;
 use groups::group_at;
 use maxima::is_none;
 use orders::host::host_ok;
