@@ -3,11 +3,11 @@ ghost use mathlib.Core.Path.{_≡_};
 ghost use Prim.Native.Nat.{_+_, _≤_, _<_, _^_, min};
 ghost use lib.ListN.{length};
 ghost use Rattle.columns.specs.Column.{marked, digit as digitOf, number, digits, same, part, digitsAt, markedAt};
-use crate::powers::POWERS;
-use crate::powers::power;
-use crate::written::MOST;
 use crate::written::byte_at;
 use columns::bytes::holds;
+use powers::MOST;
+use powers::POWERS;
+use powers::power;
 
 pub fn digit(b: u8) -> u64
     ensures { λ r. ⌜ r ≡ digitOf b ⌝ }

@@ -5,46 +5,13 @@ ghost use lib.ListN.{length};
 ghost use lib.Seq.{paste};
 ghost use Rattle.columns.specs.Powers.{powersOfTen};
 ghost use Rattle.rules.specs.Tests.{pick};
-ghost use Rattle.columns.specs.Column.{blank, byteAt, marked, dashed, fits as fitsOf, optionalFits, signedFits, plainPut, optionalPut, signedPut};
-use crate::powers::POWERS;
-use crate::powers::power;
+ghost use Rattle.columns.specs.Column.{blank, byteAt, marked, dashed, plainPut, optionalPut, signedPut};
 use columns::bytes::holds;
-
-// 10^19, past which no number is written: the table ends below it.
-pub(crate) const MOST: u64 = 10_000_000_000_000_000_000;
-
-// Whether w columns hold n.
-pub fn fits(w: usize, n: u64) -> bool
-    ensures { λ r. ⌜ r ≡ fitsOf w n ⌝ }
-{
-    if 19 <= w {
-        return n < MOST;
-    }
-    let powers = POWERS;
-    (1 <= w) & (n < power(&powers, w))
-}
-
-fn optional_fits(w: usize, present: bool, n: u64) -> bool
-    ensures { λ r. ⌜ r ≡ optionalFits w present n ⌝ }
-{
-    if present {
-        return fits(w, n);
-    }
-    1 <= w
-}
-
-// A number below 0 leaves a column for its minus, and is not 0.
-fn signed_fits(w: usize, below: bool, n: u64) -> bool
-    ensures { λ r. ⌜ r ≡ signedFits w below n ⌝ }
-{
-    if !below {
-        return fits(w, n);
-    }
-    if w < 1 {
-        return false;
-    }
-    (1 <= n) & fits(w - 1, n)
-}
+use powers::POWERS;
+use powers::fits;
+use powers::optional_fits;
+use powers::power;
+use powers::signed_fits;
 
 // Whether place k, counted from 0 at the right, is in front of the first digit of n.
 fn is_blank(powers: &[u64; 19], n: u64, k: usize) -> bool

@@ -47,13 +47,13 @@ pub fn call(register: &mut [u64], book: &mut [u64], places: &mut [u64], c: Call)
             kind,
             price,
             quantity,
-        } => trading::calls::order(register, book, places, unit, kind, price, quantity),
+        } => ordering::order(register, book, places, unit, kind, price, quantity),
         Call::Fill {
             order,
             price,
             quantity,
-        } => trading::calls::fill(register, book, places, order, price, quantity),
-        Call::Cancel { order } => trading::calls::cancel(register, book, places, order),
+        } => filling::fill(register, book, places, order, price, quantity),
+        Call::Cancel { order } => cancelling::cancel(register, book, places, order),
         Call::Close => guarded_close(register, book, places),
     }
 }

@@ -5,6 +5,7 @@ ghost use Rattle.claim.specs.Step.{bookSound, memory, onRegister, closingSound}
 ghost use Rattle.rules.specs.Refusals.{answered};
 ghost use Rattle.quota.specs.Calls.{enrolAnswer, enrolAfter, attachRefusal, attachAfter, detachRefusal, detachAfter, regularRefusal, regularAfter, raiseRefusal, raiseAfter, withdrawRefusal, withdrawAfter, ownQuotaRefusal, ownQuotaAfter};
 use book::check::book_ok;
+use bookkeeping::close_orders;
 use closing::close_quotas;
 use quota::asks::groups_enrolled;
 use rules::calls::Answer;
@@ -12,7 +13,6 @@ use rules::calls::accepted_as;
 use rules::calls::refused_by;
 use rules::money::Millions;
 use rules::refusals::UNSOUND;
-use trading::close::close_orders;
 
 // The book is sound beside the register, and N places are lent.
 pub fn book_sound(register: &[u64], book: &[u64], places: &[u64]) -> bool

@@ -12,8 +12,8 @@ use callfile::words::words_fit;
 use callfile::words::words_of;
 use columns::bytes::holds;
 use columns::bytes::put_text;
-use decimal::written::fits;
 use decimal::written::put_plain;
+use powers::fits;
 use rules::calls::Answer;
 use rules::calls::Call;
 

@@ -4,6 +4,7 @@ ghost use mathlib.Core.Path.{_≡_};
 ghost use mathlib.Core.Bool.{true};
 ghost use Rattle.orders.specs.Booking.{moneyFits};
 ghost use Rattle.rows.specs.Row.{signedNet, madeRow, classKept, atMost, limitsKept, rowObeys, agree as agreeOf, netKept, rowKept, refusedRow, shownRow, rowRefusal, rowAt, rowOf};
+use bookkeeping::money_fits;
 use bookmoney::money_at;
 use groups::group_at;
 use maxima::is_none;
@@ -23,7 +24,6 @@ use rules::refusals::NOT_THERE;
 use rules::refusals::OUT_OF_RANGE;
 use rules::refusals::UNSOUND;
 use rules::refusals::first;
-use trading::booking::money_fits;
 
 // Net as sign and size: below 0, or not.
 pub struct Net {

@@ -1,0 +1,3 @@
+pub mod Amounts
+pub mod Shape
+pub mod Named
