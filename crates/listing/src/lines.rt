@@ -1,26 +1,18 @@
-// One row as a line of 108 bytes, written and read.
+// One row as a line of 108 bytes: written here, read in the crate `rowscan`.
 ghost use mathlib.Core.Path.{_≡_};
 ghost use mathlib.Core.Bool.{true};
 ghost use Prim.Native.Nat.{_+_, _≤_};
 ghost use lib.ListN.{length};
 ghost use lib.Seq.{paste};
 ghost use Rattle.rows.specs.Row.{rowKept};
-ghost use Rattle.listing.specs.Text.{limitPut, limitsPut, rowText, limitOf, readLine, rowPut};
+ghost use Rattle.listing.specs.Text.{limitPut, limitsPut, rowText, rowPut};
 use columns::bytes::put_text;
-use columns::bytes::same_at;
-use columns::reading::Optional;
 use decimal::written::put_optional;
 use decimal::written::put_plain;
 use decimal::written::put_signed;
 use rows::Row;
 use rows::row_kept;
-use rules::kinds::Money;
-use rules::money::Millions;
-use rules::money::Mils;
 use rules::quotas::Limit;
-use scan::optional_at;
-use scan::plain_at;
-use scan::signed_at;
 
 // "code 5 columns, class 2, maximum 8, own quota 8, net 21, open buys 21, bought 21, sold 21, line feed"
 pub const ROW: usize = 108;
@@ -30,8 +22,6 @@ pub struct Line {
     pub good: bool,
     pub row: Row,
 }
-
-// ---- written
 
 // A maximum or an own quota into 8 columns, "-" for none.
 fn put_limit(out: &mut [u8], at: usize, limit: Limit)
@@ -88,48 +78,4 @@ pub fn put_row(out: &mut [u8], at: usize, row: Row)
         return;
     }
     write_row(out, at, row);
-}
-
-// ---- read
-
-fn limit_of(column: Optional) -> Limit
-    ensures { λ r. ⌜ r ≡ limitOf column ⌝ }
-{
-    if column.present {
-        return Limit::At(Millions(column.number));
-    }
-    Limit::Nothing
-}
-
-// What a line says.
-pub fn read_line(line: &[u8]) -> Line
-    ensures { λ r. ⌜ r ≡ readLine (now (line .entry)) ⌝ }
-{
-    let code = plain_at(line, 0, 5);
-    let class = plain_at(line, 5, 2);
-    let maximum = optional_at(line, 7, 8);
-    let own = optional_at(line, 15, 8);
-    let net = signed_at(line, 23, 21);
-    let open = plain_at(line, 44, 21);
-    let bought = plain_at(line, 65, 21);
-    let sold = plain_at(line, 86, 21);
-    let ends = same_at(line, 107, b"\n");
-    let columns = code.formed & class.formed & maximum.formed & own.formed & net.formed;
-    let formed = columns & open.formed & bought.formed & sold.formed & ends;
-    let money = Money {
-        open: Mils(open.number),
-        bought: Mils(bought.number),
-        sold: Mils(sold.number),
-    };
-    let row = Row {
-        code: code.number,
-        class: class.number,
-        maximum: limit_of(maximum),
-        own: limit_of(own),
-        money: money,
-        below: net.below,
-        net: Mils(net.size),
-    };
-    let good = (line.len() == ROW) & (formed & row_kept(row));
-    Line { good, row }
 }

@@ -1,8 +1,8 @@
--- `listing::lines::read_line` meets its contract. Assumes nothing.
+-- `rowscan::read_line` meets its contract. Assumes nothing.
 use Rattle.listing.specs.Text.{rowIn, rowFormed, rowGood}
 use borrow.Author.Needs.{needs}
-use Rattle.listing.proofs.lines.read_line.Statement.{statement}
-use Rattle.listing.proofs.lines.read_line.Tie as tie
+use Rattle.rowscan.proofs.read_line.Statement.{statement}
+use Rattle.rowscan.proofs.read_line.Tie as tie
 
 plain-at-requires : tie.Need-plain-at-requires
 plain-at-requires c κs = search needs

@@ -1,7 +1,7 @@
--- `listing::lines::limit_of` meets its contract. Assumes nothing.
+-- `rowscan::limit_of` meets its contract. Assumes nothing.
 use borrow.Author.Needs.{needs}
-use Rattle.listing.proofs.lines.limit_of.Statement.{statement}
-use Rattle.listing.proofs.lines.limit_of.Tie as tie
+use Rattle.rowscan.proofs.limit_of.Statement.{statement}
+use Rattle.rowscan.proofs.limit_of.Tie as tie
 
 returns : tie.Need-returns
 returns c = rw (c .if1 .taken)

@@ -1,9 +1,9 @@
--- `reasons::trading::order_refusal` meets its contract. Assumes nothing.
+-- `orderreasons::order_refusal` meets its contract. Assumes nothing.
 use Rattle.rules.specs.Money.{amount}
 use Rattle.rules.specs.Lists.{orderRules}
 use borrow.Author.Needs.{needs}
-use Rattle.reasons.proofs.trading.order_refusal.Statement.{statement}
-use Rattle.reasons.proofs.trading.order_refusal.Tie as tie
+use Rattle.orderreasons.proofs.order_refusal.Statement.{statement}
+use Rattle.orderreasons.proofs.order_refusal.Tie as tie
 
 is-buy-requires : tie.Need-is-buy-requires
 is-buy-requires c κs = search needs

@@ -1,8 +1,8 @@
--- `reasons::trading::fill_refusal` meets its contract. Assumes nothing.
+-- `orderreasons::fill_refusal` meets its contract. Assumes nothing.
 use Rattle.rules.specs.Lists.{fillRules}
 use borrow.Author.Needs.{needs}
-use Rattle.reasons.proofs.trading.fill_refusal.Statement.{statement}
-use Rattle.reasons.proofs.trading.fill_refusal.Tie as tie
+use Rattle.orderreasons.proofs.fill_refusal.Statement.{statement}
+use Rattle.orderreasons.proofs.fill_refusal.Tie as tie
 
 worse-fill-requires : tie.Need-worse-fill-requires
 worse-fill-requires c κs = search needs

@@ -1,7 +1,7 @@
--- `reasons::trading::order_in_range` meets its contract. Assumes nothing.
+-- `orderreasons::order_in_range` meets its contract. Assumes nothing.
 use borrow.Author.Needs.{needs}
-use Rattle.reasons.proofs.trading.order_in_range.Statement.{statement}
-use Rattle.reasons.proofs.trading.order_in_range.Tie as tie
+use Rattle.orderreasons.proofs.order_in_range.Statement.{statement}
+use Rattle.orderreasons.proofs.order_in_range.Tie as tie
 
 price-ok-requires : tie.Need-price-ok-requires
 price-ok-requires c κs = search needs

@@ -1,8 +1,8 @@
--- `reasons::trading::cancel_refusal` meets its contract. Assumes nothing.
+-- `orderreasons::cancel_refusal` meets its contract. Assumes nothing.
 use Rattle.rules.specs.Lists.{cancelRules}
 use borrow.Author.Needs.{needs}
-use Rattle.reasons.proofs.trading.cancel_refusal.Statement.{statement}
-use Rattle.reasons.proofs.trading.cancel_refusal.Tie as tie
+use Rattle.orderreasons.proofs.cancel_refusal.Statement.{statement}
+use Rattle.orderreasons.proofs.cancel_refusal.Tie as tie
 
 first-requires : tie.Need-first-requires
 first-requires c κs = search needs
