@@ -6,7 +6,7 @@ use native.Mathlib.Omega.{arith}
 use native.Mathlib.Nat.{le-trans, mul-le-mul-left, mul-le-mul-right}
 use borrow.Author.Tests.{leb-true, leb-false, le-leb, lt-leb}
 use lib.Dec.{leb}
-use Rattle.rules.specs.Sums.{when}
+use Rattle.rules.specs.Sums.{when, when-zero}
 use Rattle.rules.specs.Limits.{topPrice, topQuantity, topMoney}
 use Rattle.rules.specs.Orders.{isBuy}
 use Rattle.rules.specs.declared.money.Mils.{Mils}
@@ -31,18 +31,13 @@ counted-most true p q r e = omega (arith, in-range-most p q)
 counted-most false p q r e = omega arith
 
 -- out of range nothing is counted
-pub counted-none : (b : Bool) → when b 0 ≡ 0
-unfolding when
-counted-none true = refl
-counted-none false = refl
-
 pub price-above : (b : Bool) (p : Mils) (q : ℕ) → topPrice < p .0 → 0 ≡ when b (amountInRange p q)
 unfolding amountInRange when
-price-above b p q h = rw (lt-leb (p .0) topPrice h) (sym (counted-none b))
+price-above b p q h = rw (lt-leb (p .0) topPrice h) (sym (when-zero b))
 
 pub quantity-above : (b : Bool) (p : Mils) (q : ℕ) → p .0 ≤ topPrice → topQuantity < q → 0 ≡ when b (amountInRange p q)
 unfolding amountInRange when
-quantity-above b p q h k = rw (le-leb (p .0) topPrice h, lt-leb q topQuantity k) (sym (counted-none b))
+quantity-above b p q h k = rw (le-leb (p .0) topPrice h, lt-leb q topQuantity k) (sym (when-zero b))
 
 -- a price and a quantity in their ranges
 module _ (p : Mils) (q : ℕ) (h : p .0 ≤ topPrice) (k : q ≤ topQuantity) where

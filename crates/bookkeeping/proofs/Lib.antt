@@ -1,3 +1,4 @@
 pub mod Amounts
+pub mod Taken
 pub mod Shape
 pub mod Named

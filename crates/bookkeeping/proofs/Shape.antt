@@ -1,6 +1,6 @@
 -- Calls 8 to 10 have one shape: the list, the booking, the change of book and places, the answer. Assumes nothing.
-use Prim.Native.Nat.{ℕ, zero, suc}
-use mathlib.Core.Path.{_≡_, refl, sym, ap, _∙_}
+use Prim.Native.Nat.{ℕ}
+use mathlib.Core.Path.{_≡_, sym, ap, _∙_}
 use mathlib.Core.Bool.{Bool, true, false, not}
 use mathlib.Core.List.{List}
 use native.Mathlib.Omega.{arith}
@@ -12,32 +12,39 @@ use Rattle.rules.specs.declared.calls.Answer.{Answer}
 use Rattle.orders.specs.Calls.{unlessBroken}
 use Rattle.orders.specs.declared.booking.Booked.{Booked}
 
--- the refusal: the list's number, else the booking's
-pub listed-step : (r q : ℕ) (b : Booked) → r ≡ q → (r ≡ 0 → ⊥) → r ≡ unlessBroken q b
-listed-step r q b e n = e ∙ sym (where-refused (pick (not (b .ok)) UNSOUND 0) q q (λ z. n (e ∙ z)))
+-- The three outcomes, over the list's number, the money booked, the number given, and book and places before and after.
+module _ (listed : ℕ) (booked : Booked) (number : ℕ) (after bs placed ps : List ℕ) where
+  abbrev whole : ℕ
+  whole = unlessBroken listed booked
 
-pub booked-step : (r q x : ℕ) (done : Booked) (b : Booked) → r ≡ q → r ≡ 0 → x ≡ pick (not (done .ok)) UNSOUND 0 → done ≡ b → x ≡ unlessBroken q b
-booked-step r q x done b e z p d = p ∙ ap (λ (t : Booked). pick (not (t .ok)) UNSOUND 0) d ∙ sym (where-accepted (pick (not (b .ok)) UNSOUND 0) q q (sym e ∙ z))
+  abbrev pub Outcome : Answer → List ℕ → List ℕ → Type 0
+  Outcome answer book places =
+      (answer ≡ unlessRefused whole (accepted number) (refused whole)) × ((book ≡ unlessRefused whole after bs) × (places ≡ unlessRefused whole placed ps))
 
--- 1 where the money would leave 0 to L; nothing where it fits
-pub broken-step : (r q : ℕ) (done b : Booked) → r ≡ q → r ≡ 0 → done ≡ b → not (done .ok) ≡ true → UNSOUND ≡ unlessBroken q b
-broken-step r q done b e z d h = booked-step r q UNSOUND done b e z (sym (ap (λ (t : Bool). pick t UNSOUND 0) h)) d
+  -- a whole refusal of r: its number alone, book and places as they were
+  refused-by : (answer : Answer) (r : ℕ) → answer ≡ refused r → r ≡ whole → (r ≡ 0 → ⊥) → Outcome answer bs ps
+  refused-by answer r t e n = (
+    t ∙ ap refused e ∙ sym (where-refused (accepted number) (refused whole) whole (λ z. n (e ∙ z))),
+    (sym (where-refused after bs whole (λ z. n (e ∙ z))), sym (where-refused placed ps whole (λ z. n (e ∙ z)))),
+  )
 
-pub fitting-step : (r q : ℕ) (done b : Booked) → r ≡ q → r ≡ 0 → done ≡ b → not (done .ok) ≡ false → 0 ≡ unlessBroken q b
-fitting-step r q done b e z d h = booked-step r q 0 done b e z (sym (ap (λ (t : Bool). pick t UNSOUND 0) h)) d
+  -- refused by the list
+  pub by-list : (answer : Answer) (r : ℕ) → answer ≡ refused r → r ≡ listed → (r ≡ 0 → ⊥) → Outcome answer bs ps
+  by-list answer r t e n = refused-by answer r t (e ∙ sym (where-refused (pick (not (booked .ok)) UNSOUND 0) listed listed (λ z. n (e ∙ z)))) n
 
--- a refused call: its number alone, book and places as they were
-pub refused-step : (answer : Answer) (r q number : ℕ) (book bs places ps : List ℕ) → answer ≡ refused r → r ≡ q → (r ≡ 0 → ⊥)
-    → (answer ≡ unlessRefused q (accepted number) (refused q)) × ((bs ≡ unlessRefused q book bs) × (ps ≡ unlessRefused q places ps))
-refused-step answer r q number book bs places ps p e n = (
-  p ∙ ap refused e ∙ sym (where-refused (accepted number) (refused q) q (λ z. n (e ∙ z))),
-  (sym (where-refused book bs q (λ z. n (e ∙ z))), sym (where-refused places ps q (λ z. n (e ∙ z)))),
-)
+  -- the list refuses nothing, and `done` was booked
+  module _ (r : ℕ) (e : r ≡ listed) (z : r ≡ 0) (done : Booked) (d : done ≡ booked) where
+    whole-is : (b : Bool) → not (done .ok) ≡ b → pick b UNSOUND 0 ≡ whole
+    whole-is b o =
+        ap (λ (t : Bool). pick t UNSOUND 0) (sym o) ∙ ap (λ (x : Booked). pick (not (x .ok)) UNSOUND 0) d
+        ∙ sym (where-accepted (pick (not (booked .ok)) UNSOUND 0) listed listed (sym e ∙ z))
 
--- an accepted call: the number given, book and places with their changes
-pub accepted-step : (answer : Answer) (r q number : ℕ) (book′ book bs places′ places ps : List ℕ) → answer ≡ accepted number → r ≡ q → r ≡ 0 → book′ ≡ book → places′ ≡ places
-    → (answer ≡ unlessRefused q (accepted number) (refused q)) × ((book′ ≡ unlessRefused q book bs) × (places′ ≡ unlessRefused q places ps))
-accepted-step answer r q number book′ book bs places′ places ps p e z x y = (
-  p ∙ sym (where-accepted (accepted number) (refused q) q (sym e ∙ z)),
-  (x ∙ sym (where-accepted book bs q (sym e ∙ z)), y ∙ sym (where-accepted places ps q (sym e ∙ z))),
-)
+    -- refused by 1 for money that would leave 0 to L
+    pub by-money : (answer : Answer) → answer ≡ refused UNSOUND → not (done .ok) ≡ true → Outcome answer bs ps
+    by-money answer t o = refused-by answer UNSOUND t (whole-is true o) (λ w. omega (arith, w))
+
+    -- accepted: the number given, book and places with their changes
+    pub taken : (answer : Answer) (book places : List ℕ) → answer ≡ accepted number → not (done .ok) ≡ false → book ≡ after → places ≡ placed → Outcome answer book places
+    taken answer book places t o x y =
+        let w : whole ≡ 0 = sym (whole-is false o) in
+        (t ∙ sym (where-accepted (accepted number) (refused whole) whole w), (x ∙ sym (where-accepted after bs whole w), y ∙ sym (where-accepted placed ps whole w)))
