@@ -12,17 +12,17 @@ struct Answer {
 }
 
 extern "C" {
-    fn ekhurtza_open(register: *mut u64, words: usize, book: *mut u64, book_words: usize, places: *const u64, places_words: usize) -> u64;
+    fn ekhurtza_open(register: *mut u32, words: usize, book: *mut u64, book_words: usize, places: *const u64, places_words: usize) -> u64;
     #[rustfmt::skip]
     fn ekhurtza_call(
-        register: *mut u64, words: usize, book: *mut u64, book_words: usize, places: *mut u64, places_words: usize,
+        register: *mut u32, words: usize, book: *mut u64, book_words: usize, places: *mut u64, places_words: usize,
         code: u64, a: u64, b: u64, c: u64, d: u64,
     ) -> Answer;
 }
 
 /// A host that lends its memory.
 struct Host {
-    register: Vec<u64>,
+    register: Vec<u32>,
     book: Vec<u64>,
     places: Vec<u64>,
     units: u64,
@@ -46,7 +46,7 @@ impl Host {
 
     /// A gate with these groups, units and order places, and as many orders since the close.
     fn new(groups: u64, units: u64, n: usize, orders: u64) -> Host {
-        let mut host = Host { register: vec![7; 1986], book: vec![7; 194], places: vec![7; 4 * n], units };
+        let mut host = Host { register: vec![7; 2000], book: vec![7; 194], places: vec![7; 4 * n], units };
         let Host { register, book, places, .. } = &mut host;
         // SAFETY: as above.
         let refusal = unsafe {

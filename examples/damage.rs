@@ -13,9 +13,13 @@ use gate::{Answer, Gate, BOOK, DASH, MOST_GROUPS, PLACE, REGISTER, ROW_BYTES, RO
 
 const DAYS: usize = 12_000;
 const L: u64 = 6_553_599_344_640_000_000;
-const FIRST_GROUP: usize = 2;
-const STRIDE: usize = 23;
-const FIRST_UNIT: usize = 1474;
+const HEADER: usize = 16;
+const FIRST_DECLARER: usize = 16;
+const FIRST_FIGURE: usize = 528;
+const FIRST_UNIT: usize = 1040;
+const FIRST_UNIT_GROUP: usize = 1296;
+const FIRST_SCALAR: usize = 1552;
+const SCALARS: usize = 7;
 
 // Random numbers by xorshift.
 struct Draws(u64);
@@ -39,7 +43,14 @@ impl Draws {
 
 // ---- what the paper says of the memory, written anew from "Money and names" and the layout in docs/EMBEDDING.md
 
-fn group_in_range(words: &[u64]) -> bool {
+// The words of a group: seven scalars, eight declarers, their figures.
+fn group_words(register: &[u32], g: usize) -> Vec<u32> {
+    let scalars = (0..SCALARS).map(|k| register[FIRST_SCALAR + 64 * k + g]);
+    let declarers = register[FIRST_DECLARER + 8 * g..][..8].iter().copied();
+    scalars.chain(declarers).chain(register[FIRST_FIGURE + 8 * g..][..8].iter().copied()).collect()
+}
+
+fn group_in_range(words: &[u32]) -> bool {
     let most = |j: usize| match j {
         0 | 7..=14 => 99_999,
         1 => 4,
@@ -57,8 +68,8 @@ fn in_range(gate: &Gate) -> bool {
         return false;
     }
     let (groups, units) = (register[0] as usize, register[1] as usize);
-    (0..groups).all(|g| group_in_range(&register[FIRST_GROUP + STRIDE * g..][..STRIDE]))
-        && (0..units).all(|k| register[FIRST_UNIT + 2 * k] <= 99_999 && register[FIRST_UNIT + 2 * k + 1] < groups as u64)
+    (0..groups).all(|g| group_in_range(&group_words(register, g)))
+        && (0..units).all(|k| register[FIRST_UNIT + k] <= 99_999 && register[FIRST_UNIT_GROUP + k] < groups as u32)
         && (1..=65_536).contains(&book[0])
         && gate.places.len() as u64 == 4 * book[0]
         && book[1] <= book[0]
@@ -78,7 +89,7 @@ fn place_in_range(gate: &Gate, order: u64) -> bool {
         5 => price == 0,
         _ => false,
     };
-    group < gate.register[0] && priced && open <= 10_000_000
+    group < gate.register[0] as u64 && priced && open <= 10_000_000
 }
 
 // ---- random days
@@ -169,12 +180,17 @@ fn checked_call(gate: &mut Gate, call: [u64; 5], seen: &mut Seen) -> Answer {
         return answer;
     }
     let number = match call[0] {
-        1 => before.register[0],
+        1 => before.register[0] as u64,
         8 => before.book[1] + 1,
         _ => 0,
     };
     assert_eq!(answer.number, number, "{call:?}");
-    if call[0] <= 7 {
+    if call[0] == 1 {
+        // the group enrolled has no money, whatever the memory held
+        let mut book = before.book.clone();
+        book[2 + 3 * number as usize..][..3].fill(0);
+        assert!(gate.book == book, "{call:?} changed the book otherwise");
+    } else if call[0] <= 7 {
         assert!(gate.book == before.book, "{call:?} changed the book");
     }
     if (8..=10).contains(&call[0]) {
@@ -240,53 +256,81 @@ fn row_line(row: &[u64]) -> Vec<u8> {
 // ---- copies and damage
 
 fn to_bytes(gate: &Gate) -> Vec<u8> {
-    [&gate.register, &gate.book, &gate.places].into_iter().flatten().flat_map(|w| w.to_ne_bytes()).collect()
+    let words = [&gate.book, &gate.places].into_iter().flatten().flat_map(|w| w.to_ne_bytes());
+    gate.register.iter().flat_map(|w| w.to_ne_bytes()).chain(words).collect()
 }
 
 fn from_bytes(bytes: &[u8]) -> Gate {
-    let words: Vec<u64> = bytes.chunks_exact(8).map(|b| u64::from_ne_bytes(b.try_into().unwrap())).collect();
-    Gate { register: words[..REGISTER].to_vec(), book: words[REGISTER..REGISTER + BOOK].to_vec(), places: words[REGISTER + BOOK..].to_vec() }
+    let (register, rest) = bytes.split_at(4 * REGISTER);
+    let words: Vec<u64> = rest.chunks_exact(8).map(|b| u64::from_ne_bytes(b.try_into().unwrap())).collect();
+    Gate { register: register.chunks_exact(4).map(|b| u32::from_ne_bytes(b.try_into().unwrap())).collect(), book: words[..BOOK].to_vec(), places: words[BOOK..].to_vec() }
 }
 
 // Ends of ranges, and what lies behind them.
 const EDGES: [u64; 16] = [4, 5, 8, 9, 64, 65, 256, 257, 65_536, 65_537, 99_999, 100_000, 200_000, 200_001, L, L + 1];
 const QUOTAS: [u64; 4] = [9_999_999, 10_000_000, 10_000_001, 9_999_998];
 
+// A word of a register that is in use: a count, a unit or its group, a word of a group.
+fn used_word(groups: u64, units: u64, draws: &mut Draws) -> usize {
+    if units > 0 && draws.once_in(4) {
+        return [FIRST_UNIT, FIRST_UNIT_GROUP][draws.below(2) as usize] + draws.below(units) as usize;
+    }
+    if groups == 0 || draws.once_in(12) {
+        return draws.below(2) as usize;
+    }
+    match draws.below(23) {
+        k @ 0..=6 => FIRST_SCALAR + 64 * k as usize + draws.below(groups) as usize,
+        7..=14 => FIRST_DECLARER + draws.below(8 * groups) as usize,
+        _ => FIRST_FIGURE + draws.below(8 * groups) as usize,
+    }
+}
+
+// Another value for a word.
+fn other(word: u64, draws: &mut Draws) -> u64 {
+    match draws.below(8) {
+        0 => draws.next(),
+        1 => u64::MAX,
+        2 => word.wrapping_add(1),
+        3 => word.wrapping_sub(1),
+        4 => word ^ 1 << draws.below(64),
+        5 => EDGES[draws.below(EDGES.len() as u64) as usize],
+        6 => QUOTAS[draws.below(4) as usize],
+        _ => draws.below(12),
+    }
+}
+
 // One to three words overwritten, half of them such as are in use.
 fn damage(gate: &mut Gate, draws: &mut Draws) {
     for _ in 0..1 + draws.below(3) {
         let used = draws.once_in(2);
-        let (groups, units, orders) = (gate.register[0].min(64), gate.register[1].min(256), gate.book[1].min(gate.places.len() as u64 / 4));
-        let word = match draws.below(3) {
-            0 if used && units > 0 && draws.once_in(4) => &mut gate.register[FIRST_UNIT + draws.below(2 * units) as usize],
-            0 if used => &mut gate.register[draws.below(2 + STRIDE as u64 * groups) as usize],
-            0 => &mut gate.register[draws.below(REGISTER as u64) as usize],
-            1 if used => &mut gate.book[draws.below(2 + 3 * groups) as usize],
-            1 => &mut gate.book[draws.below(BOOK as u64) as usize],
-            _ if used && orders > 0 => &mut gate.places[draws.below(4 * orders) as usize],
-            _ => {
-                let n = gate.places.len() as u64;
-                &mut gate.places[draws.below(n) as usize]
+        let (groups, units, orders) = (gate.register[0].min(64) as u64, gate.register[1].min(256) as u64, gate.book[1].min(gate.places.len() as u64 / 4));
+        match draws.below(3) {
+            0 => {
+                let at = if used { used_word(groups, units, draws) } else { draws.below(REGISTER as u64) as usize };
+                gate.register[at] = other(gate.register[at] as u64, draws) as u32;
             }
-        };
-        *word = match draws.below(8) {
-            0 => draws.next(),
-            1 => u64::MAX,
-            2 => word.wrapping_add(1),
-            3 => word.wrapping_sub(1),
-            4 => *word ^ 1 << draws.below(64),
-            5 => EDGES[draws.below(EDGES.len() as u64) as usize],
-            6 => QUOTAS[draws.below(4) as usize],
-            _ => draws.below(12),
-        };
+            1 => {
+                let at = draws.below(if used { 2 + 3 * groups } else { BOOK as u64 }) as usize;
+                gate.book[at] = other(gate.book[at], draws);
+            }
+            _ => {
+                let n = if used && orders > 0 { 4 * orders } else { gate.places.len() as u64 };
+                let at = draws.below(n) as usize;
+                gate.places[at] = other(gate.places[at], draws);
+            }
+        }
     }
 }
 
-// Anything in the words of groups and units above the counts and of places above the last number given.
+// Anything in the words of the header behind the counts, of groups, their money and units above the counts, and of places above the last number given.
 fn fill_unused(gate: &mut Gate, draws: &mut Draws) {
     let (groups, units, orders) = (gate.register[0] as usize, gate.register[1] as usize, gate.book[1] as usize);
-    gate.register[FIRST_GROUP + STRIDE * groups..FIRST_UNIT].fill_with(|| draws.next());
-    gate.register[FIRST_UNIT + 2 * units..].fill_with(|| draws.next());
+    let columns = (0..SCALARS).map(|k| FIRST_SCALAR + 64 * k + groups..FIRST_SCALAR + 64 * (k + 1));
+    let rest = [2..HEADER, FIRST_DECLARER + 8 * groups..FIRST_FIGURE, FIRST_FIGURE + 8 * groups..FIRST_UNIT, FIRST_UNIT + units..FIRST_UNIT_GROUP, FIRST_UNIT_GROUP + units..FIRST_SCALAR];
+    for part in rest.into_iter().chain(columns) {
+        gate.register[part].fill_with(|| draws.next() as u32);
+    }
+    gate.book[2 + 3 * groups..].fill_with(|| draws.next());
     gate.places[4 * orders..].fill_with(|| draws.next());
 }
 

@@ -7,7 +7,7 @@
 
 #define N 2048
 
-static uint64_t reg[EKHURTZA_REGISTER];
+static uint32_t reg[EKHURTZA_REGISTER];
 static uint64_t book[EKHURTZA_BOOK];
 static uint64_t places[EKHURTZA_PLACE * N];
 static uint8_t listing[EKHURTZA_ROW_BYTES * EKHURTZA_MOST_GROUPS];

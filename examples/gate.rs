@@ -2,7 +2,7 @@
 // do not overlap, which is all that the library asks of its caller.
 #![allow(dead_code)]
 
-pub const REGISTER: usize = 1986;
+pub const REGISTER: usize = 2000;
 pub const BOOK: usize = 194;
 pub const PLACE: usize = 4;
 pub const ROW_BYTES: usize = 108;
@@ -19,16 +19,16 @@ pub struct Answer {
 }
 
 extern "C" {
-    fn ekhurtza_open(reg: *mut u64, reg_words: usize, book: *mut u64, book_words: usize, places: *const u64, places_words: usize) -> u64;
-    fn ekhurtza_call(reg: *mut u64, reg_words: usize, book: *mut u64, book_words: usize, places: *mut u64, places_words: usize, code: u64, a: u64, b: u64, c: u64, d: u64) -> Answer;
-    fn ekhurtza_listing(reg: *const u64, reg_words: usize, book: *const u64, book_words: usize, places: *const u64, places_words: usize, buffer: *mut u8, buffer_bytes: usize) -> Answer;
-    fn ekhurtza_row(reg: *const u64, reg_words: usize, book: *const u64, book_words: usize, places: *const u64, places_words: usize, group: u64, out: *mut u64, out_words: usize) -> u64;
+    fn ekhurtza_open(reg: *mut u32, reg_words: usize, book: *mut u64, book_words: usize, places: *const u64, places_words: usize) -> u64;
+    fn ekhurtza_call(reg: *mut u32, reg_words: usize, book: *mut u64, book_words: usize, places: *mut u64, places_words: usize, code: u64, a: u64, b: u64, c: u64, d: u64) -> Answer;
+    fn ekhurtza_listing(reg: *const u32, reg_words: usize, book: *const u64, book_words: usize, places: *const u64, places_words: usize, buffer: *mut u8, buffer_bytes: usize) -> Answer;
+    fn ekhurtza_row(reg: *const u32, reg_words: usize, book: *const u64, book_words: usize, places: *const u64, places_words: usize, group: u64, out: *mut u64, out_words: usize) -> u64;
 }
 
 // All of a gate is these words: a copy of them is a copy of the gate.
 #[derive(Clone, Debug, PartialEq, Eq)]
 pub struct Gate {
-    pub register: Vec<u64>,
+    pub register: Vec<u32>,
     pub book: Vec<u64>,
     pub places: Vec<u64>,
 }
@@ -36,7 +36,7 @@ pub struct Gate {
 impl Gate {
     // Memory of any content, not opened yet.
     pub fn lent(register: usize, book: usize, places: usize, word: u64) -> Gate {
-        Gate { register: vec![word; register], book: vec![word; book], places: vec![word; places] }
+        Gate { register: vec![word as u32; register], book: vec![word; book], places: vec![word; places] }
     }
 
     pub fn open(&mut self) -> u64 {

@@ -16,9 +16,9 @@
 extern "C" {
 #endif
 
-/* How much to lend, in words of 64 bits unless said otherwise. */
-#define EKHURTZA_REGISTER 1986 /* the register: groups, quotas, units */
-#define EKHURTZA_BOOK 194      /* the book: N, orders accepted, each group's money */
+/* How much to lend: the register in words of 32 bits, book and places in words of 64 bits. */
+#define EKHURTZA_REGISTER 2000 /* words of 32 bits: groups, quotas, units */
+#define EKHURTZA_BOOK 194      /* words of 64 bits: N, orders accepted, each group's money */
 #define EKHURTZA_PLACE 4       /* words an order place; N of them, 1 to 65,536 */
 #define EKHURTZA_MOST_PLACES 65536
 #define EKHURTZA_MOST_GROUPS 64
@@ -71,18 +71,18 @@ struct ekhurtza_answer {
 
 /* A fresh gate in a register and a book of any content; N is places_words / 4. No place is written.
  * 0, or 1 where a slice has another length or N is out of its range; then nothing is written. */
-uint64_t ekhurtza_open(uint64_t *reg, size_t reg_words, uint64_t *book, size_t book_words, const uint64_t *places, size_t places_words);
+uint64_t ekhurtza_open(uint32_t *reg, size_t reg_words, uint64_t *book, size_t book_words, const uint64_t *places, size_t places_words);
 
 /* A call by its code and four fields. A code other than 1 to 11 is answered by 2, or by 1 where the memory is not sound. */
-struct ekhurtza_answer ekhurtza_call(uint64_t *reg, size_t reg_words, uint64_t *book, size_t book_words, uint64_t *places, size_t places_words, uint64_t code, uint64_t a, uint64_t b, uint64_t c, uint64_t d);
+struct ekhurtza_answer ekhurtza_call(uint32_t *reg, size_t reg_words, uint64_t *book, size_t book_words, uint64_t *places, size_t places_words, uint64_t code, uint64_t a, uint64_t b, uint64_t c, uint64_t d);
 
 /* The listing, one line of 108 bytes a group in enrolment order; the rest of the buffer keeps its contents.
  * Refused by 1 or 22; then no byte is written. A buffer of 64 * 108 = 6,912 bytes is never too short. */
-struct ekhurtza_answer ekhurtza_listing(const uint64_t *reg, size_t reg_words, const uint64_t *book, size_t book_words, const uint64_t *places, size_t places_words, uint8_t *buffer, size_t buffer_bytes);
+struct ekhurtza_answer ekhurtza_listing(const uint32_t *reg, size_t reg_words, const uint64_t *book, size_t book_words, const uint64_t *places, size_t places_words, uint8_t *buffer, size_t buffer_bytes);
 
 /* The row of a group into the first 9 words of `out`; the rest keeps its contents.
  * Refused by 1, 2 (group above 63), 6 (not enrolled) or 22 (fewer than 9 words); then no word is written. */
-uint64_t ekhurtza_row(const uint64_t *reg, size_t reg_words, const uint64_t *book, size_t book_words, const uint64_t *places, size_t places_words, uint64_t group, uint64_t *out, size_t out_words);
+uint64_t ekhurtza_row(const uint32_t *reg, size_t reg_words, const uint64_t *book, size_t book_words, const uint64_t *places, size_t places_words, uint64_t group, uint64_t *out, size_t out_words);
 
 /* The words of a row, in the order of a listing's columns. Money is in mils. */
 #define EKHURTZA_ROW_CODE 0

@@ -17,7 +17,7 @@ use soundness::register_ok;
 use units::is_attached;
 use units::unit_count;
 
-fn reads_of_enrol(register: &[u64], code: u64, class: u64) -> EnrolReads
+fn reads_of_enrol(register: &[u32], code: u64, class: u64) -> EnrolReads
     ensures { λ r. ⌜ r ≡ enrolReads (now (register .entry)) code class ⌝ }
 {
     let taken = is_taken(register, code, class);
@@ -28,7 +28,7 @@ fn reads_of_enrol(register: &[u64], code: u64, class: u64) -> EnrolReads
     }
 }
 
-fn reads_of_attach(register: &[u64], unit: u64, group: u64) -> AttachReads
+fn reads_of_attach(register: &[u32], unit: u64, group: u64) -> AttachReads
     ensures { λ r. ⌜ r ≡ attachReads (now (register .entry)) unit group ⌝ }
 {
     let attached = is_attached(register, unit);
@@ -41,21 +41,21 @@ fn reads_of_attach(register: &[u64], unit: u64, group: u64) -> AttachReads
     }
 }
 
-pub fn refusal_of_enrol(register: &[u64], code: u64, class: u64) -> u64
+pub fn refusal_of_enrol(register: &[u32], code: u64, class: u64) -> u64
     ensures { λ r. ⌜ r ≡ enrolRefusal (now (register .entry)) code class ⌝ }
 {
     let r = enrol_refusal(code, class, reads_of_enrol(register, code, class));
     first(!register_ok(register), UNSOUND, r)
 }
 
-pub fn refusal_of_attach(register: &[u64], unit: u64, group: u64) -> u64
+pub fn refusal_of_attach(register: &[u32], unit: u64, group: u64) -> u64
     ensures { λ r. ⌜ r ≡ attachRefusal (now (register .entry)) unit group ⌝ }
 {
     let r = attach_refusal(unit, group, reads_of_attach(register, unit, group));
     first(!register_ok(register), UNSOUND, r)
 }
 
-pub fn refusal_of_detach(register: &[u64], unit: u64) -> u64
+pub fn refusal_of_detach(register: &[u32], unit: u64) -> u64
     ensures { λ r. ⌜ r ≡ detachRefusal (now (register .entry)) unit ⌝ }
 {
     let r = detach_refusal(unit, is_attached(register, unit));

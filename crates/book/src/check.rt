@@ -8,6 +8,7 @@ ghost use Prim.Native.Nat.{_+_};
 ghost use Rattle.rules.specs.Limits.{topMoney};
 ghost use Rattle.words.specs.Each.{allBelow};
 ghost use Rattle.book.specs.Check.{bookOk, placeOk};
+ghost use Rattle.book.specs.Joined.{Above};
 use crate::layout::ACCEPTED;
 use crate::layout::BOOK;
 use crate::layout::FIRST_MONEY;
@@ -21,8 +22,22 @@ use rules::limits::TOP_ORDER;
 use rules::limits::TOP_QUANTITY;
 use rules::limits::smaller;
 
-// The first n words of money are at most L.
-fn money_ok(book: &[u64], n: usize) -> bool
+// The first n words of money joined bit by bit: none of them is above it.
+fn joined(book: &[u64], n: usize) -> u64
+    requires { ⌜ (length (now book) ≡ 194) × (n ≤ 192) ⌝ }
+    ensures { λ r. ⌜ Above (now (book .entry)) 2 n r ⌝ }
+{
+    let mut m: u64 = 0;
+    let mut j: usize = 0;
+    while j < n {
+        m = m | book[FIRST_MONEY + j];
+        j += 1;
+    }
+    m
+}
+
+// The first n words of money are at most L, one by one.
+fn each_ok(book: &[u64], n: usize) -> bool
     requires { ⌜ (length (now book) ≡ 194) × (n ≤ 192) ⌝ }
     ensures { λ r. ⌜ r ≡ allBelow n (λ j. leb (getD (now (book .entry)) (2 + j) 0) topMoney) ⌝ }
 {
@@ -33,6 +48,17 @@ fn money_ok(book: &[u64], n: usize) -> bool
         j += 1;
     }
     ok
+}
+
+// The first n words of money are at most L. Where all of them joined are below 2^62, nothing else is looked at.
+fn money_ok(book: &[u64], n: usize) -> bool
+    requires { ⌜ (length (now book) ≡ 194) × (n ≤ 192) ⌝ }
+    ensures { λ r. ⌜ r ≡ allBelow n (λ j. leb (getD (now (book .entry)) (2 + j) 0) topMoney) ⌝ }
+{
+    if joined(book, n) < 4_611_686_018_427_387_904 {
+        return true;
+    }
+    each_ok(book, n)
 }
 
 // Every figure of the book is in its range, with that many groups enrolled, and the places lent are N.

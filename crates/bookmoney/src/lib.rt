@@ -1,6 +1,6 @@
 // A group's money since the close, in mils: open buys, bought, sold. Net is never stored.
 ghost use mathlib.Core.Path.{_≡_};
-ghost use Rattle.book.specs.Layout.{acceptedOf, placesOf, moneyAt, putMoney, putAccepted};
+ghost use Rattle.book.specs.Layout.{acceptedOf, placesOf, noMoney, moneyAt, putMoney, putAccepted};
 use book::layout::ACCEPTED;
 use book::layout::FIRST_MONEY;
 use book::layout::MONEY_WORDS;
@@ -65,4 +65,19 @@ pub fn put_money(book: &mut [u64], group: u64, money: Money)
     let sold = money.sold;
     let base = FIRST_MONEY + MONEY_WORDS * (group as usize);
     store(book, base, &[open.0, bought.0, sold.0]);
+}
+
+// No money of a group put; nothing where there is no such group.
+pub fn clear_money(book: &mut [u64], group: u64)
+    ensures { λ _. ⌜ now (book .exit) ≡ putMoney (now (book .entry)) group noMoney ⌝ }
+{
+    put_money(
+        book,
+        group,
+        Money {
+            open: Mils(0),
+            bought: Mils(0),
+            sold: Mils(0),
+        },
+    );
 }

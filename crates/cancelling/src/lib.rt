@@ -47,7 +47,7 @@ fn booked_cancel(money: Money, place: Place) -> Booked
 }
 
 // Call 10. Cancel: the whole open quantity, at the order's price.
-pub fn cancel(register: &[u64], book: &mut [u64], places: &mut [u64], number: u64) -> Answer
+pub fn cancel(register: &[u32], book: &mut [u64], places: &mut [u64], number: u64) -> Answer
     ensures { λ r. ⌜ (r ≡ answered (cancelRefusal (now (register .entry)) (now (book .entry)) (now (places .entry)) number))
         × ((now (book .exit) ≡ cancelBook (now (register .entry)) (now (book .entry)) (now (places .entry)) number)
         × (now (places .exit) ≡ cancelPlaces (now (register .entry)) (now (book .entry)) (now (places .entry)) number)) ⌝ }

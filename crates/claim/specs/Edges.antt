@@ -22,7 +22,7 @@ use Rattle.rules.specs.declared.kinds.Money.{Money}
 use Rattle.rules.specs.declared.calls.Call.{Call}
 use Rattle.rules.specs.declared.calls.Call.the-variants.{Enrol, Attach, Regular, Raise, OwnQuota, Order, Fill, Close}
 use Rattle.rules.specs.declared.calls.Answer.{Answer}
-use Rattle.history.specs.Past.{History, atOpening, filledMoney, openIn, boughtIn, soldIn, moneyOf, netIn}
+use Rattle.history.specs.Past.{History, atOpening, filledMoney, openIn, boughtIn, soldIn, moneyIn, moneyOf, netIn}
 use Rattle.history.specs.Past as past
 use Rattle.history.specs.Answers.{isTaken, refusals, numberGiven, answer}
 use Rattle.history.specs.Runs.{accept, next, after, answers}
@@ -162,7 +162,7 @@ a & b = (a, b)
 
 -- computed on the history
 told : All (Told 4) edges
-unfolding answers answer after next numberGiven refusals accept isTaken find put without when total filledMoney openIn boughtIn soldIn moneyOf netOf shanghai stops milsOf isBuy priceRule worseFill quotaDue closedQuota enrolRules attachRules detachRules regularRules raiseRules withdrawRules ownQuotaRules orderRules fillRules cancelRules
+unfolding answers answer after next numberGiven refusals accept isTaken find put without when total filledMoney openIn boughtIn soldIn moneyIn netOf shanghai stops milsOf isBuy priceRule worseFill quotaDue closedQuota enrolRules attachRules detachRules regularRules raiseRules withdrawRules ownQuotaRules orderRules fillRules cancelRules
 told =
     refl
     & refl
@@ -217,6 +217,6 @@ pub edges-hold : (rs bs ps : List ℕ) → openRefusal rs bs ps ≡ 0 → places
 edges-hold rs bs ps o four = all-carried rs bs ps o edges (subst (λ N. All (Told N) edges) (sym four) told)
 
 -- such memory can be lent, as of words 7: the opening of it is proper, and N is 4
-pub four-lent : (openRefusal (replicate 1_986 7) (replicate 194 7) (replicate 16 7) ≡ 0) × (placesLent (replicate 16 7) ≡ 4)
+pub four-lent : (openRefusal (replicate 2_000 7) (replicate 194 7) (replicate 16 7) ≡ 0) × (placesLent (replicate 16 7) ≡ 4)
 unfolding openRefusal
 four-lent = (refl, refl)

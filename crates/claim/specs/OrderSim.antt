@@ -7,7 +7,7 @@ use mathlib.Core.List.{List, [], _∷_, _++_}
 use mathlib.Core.Logic.{_≢_}
 use native.Mathlib.Omega.{arith}
 use lib.Dec.{ltb}
-use borrow.Author.Tests.{leb-true, le-leb}
+use borrow.Author.Tests.{leb-true, le-leb, eq-eqb, ne-eqb}
 use lib.ListN.{length, getD, replicate, length-append, length-set, List·getD-append}
 use lib.Seq.{getD-set-same, getD-set-other, getD-append-seam}
 use Rattle.rules.specs.Tests.{pick, within, within-true}
@@ -16,7 +16,7 @@ use Rattle.rules.specs.Quotas.{inForce}
 use Rattle.rules.specs.Orders.{isBuy, Rule}
 use Rattle.rules.specs.Refusals.{refusal}
 use Rattle.rules.specs.Lists.{orderRules, fillRules, cancelRules}
-use Rattle.rules.specs.Sums.{when-zero, total}
+use Rattle.rules.specs.Sums.{when, when-zero, total}
 use Rattle.rules.specs.declared.money.Millions.{Millions}
 use Rattle.rules.specs.declared.money.Mils.{Mils}
 use Rattle.rules.specs.declared.kinds.Money.{Money}
@@ -24,7 +24,7 @@ use Rattle.rules.specs.declared.calls.Call.the-variants.{Enrol, Attach, Detach,
 use Rattle.rules.specs.declared.trading.OrderReads.{OrderReads}
 use Rattle.rules.specs.declared.trading.PlaceReads.{PlaceReads}
 use Rattle.words.specs.Each.{same}
-use Rattle.history.specs.Past.{Filled, Ordered, History, atOpening, noOrder, groupAt, orderAt, filledMoney, moneyOf}
+use Rattle.history.specs.Past.{Filled, Ordered, History, atOpening, noOrder, groupAt, orderAt, filledMoney, openIn, boughtIn, soldIn, inGroup, belongs, moneyIn, moneyOf}
 use Rattle.history.specs.Answers as past
 use Rattle.history.specs.Runs.{withOrders, withOpen, changedOrder, ordered, filled, cancelled, accept}
 use Rattle.quota.specs.Asks as asks
@@ -32,7 +32,7 @@ use Rattle.quota.specs.Promises.{groups-most}
 use Rattle.book.specs.Layout.{placesOf, acceptedOf, putAccepted, noMoney, moneyAt, putMoney, placeAt, putPlace, putOpen}
 use Rattle.book.specs.Check.{placeOk}
 use Rattle.book.specs.Known.{InMoney, BookKnown, known-book, known-place}
-use Rattle.book.specs.Laws.{money-same, money-other, places-of-put, accepted-of-put, length-put-money, accepted-same, places-of-accepted, money-of-accepted, place-same, place-other, length-put-place, open-same, open-other, length-put-open, places-of-closed, accepted-of-closed, money-of-closed, known-put-money, known-put-accepted, known-places, known-closed}
+use Rattle.book.specs.Laws.{no-money-put, money-same, money-other, places-of-put, accepted-of-put, length-put-money, accepted-same, places-of-accepted, money-of-accepted, place-same, place-other, length-put-place, open-same, open-other, length-put-open, places-of-closed, accepted-of-closed, money-of-closed, known-put-money, known-put-accepted, known-places, known-closed}
 use Rattle.book.specs.declared.places.Place.{Place}
 use Rattle.orders.specs.Host.{hostOk, isGiven, namedOk}
 use Rattle.orders.specs.Booking as booked
@@ -40,12 +40,12 @@ use Rattle.orders.specs.Calls as calls
 use Rattle.orders.specs.Clear.{host-known, order-clear, fill-clear, cancel-clear}
 use Rattle.orders.specs.declared.booking.Booked.{Booked}
 use Rattle.claim.specs.Relation.{placeOf, OrderKnown, OrderSim}
-use Rattle.claim.specs.OrderSums.{AllKnown, money-fits, known-fresh, known-filled, known-cancelled, known-among, all-append, all-set, open-part, filled-more, cancelled-same, more-here, more-else, moved-here, moved-else}
+use Rattle.claim.specs.OrderSums.{total-bound, AllKnown, money-fits, known-fresh, known-filled, known-cancelled, known-among, all-append, all-set, open-part, filled-more, cancelled-same, more-here, more-else, moved-here, moved-else}
 
 -- ---- 6: no orders, and a book of zeros
 
 money-empty : (h : History) (g : ℕ) → h .orders ≡ [] → moneyOf h g ≡ noMoney
-unfolding moneyOf total
+unfolding moneyIn total
 money-empty h g e = rw e
 
 pub empty-sim : (N : ℕ) (h : History) (bs ps : List ℕ) → h .orders ≡ [] → placesOf bs ≡ N → acceptedOf bs ≡ 0 → ((g : ℕ) → moneyAt bs g ≡ noMoney) → OrderSim N h bs ps
@@ -72,6 +72,21 @@ money-zeros bs g w = rw (w (2 + 3 * g) (omega arith), w (2 + 3 * g + 1) (omega a
     go true = refl
     go false = refl
 
+-- a group that no order names has no money
+none-share : (n : ℕ) (o : Ordered) → OrderKnown n o → openIn (inGroup n) o + boughtIn (inGroup n) o + soldIn (inGroup n) o ≤ 0
+unfolding openIn boughtIn soldIn when
+none-share n o k = rw (ne-eqb (o .group) n (λ e. omega (arith, k .group, e))) (omega arith)
+
+money-none : (n : ℕ) (h : History) → AllKnown n (h .orders) → moneyOf h n ≡ noMoney
+unfolding moneyIn
+money-none n h a =
+    let b : total (openIn (inGroup n)) (h .orders) + total (boughtIn (inGroup n)) (h .orders) + total (soldIn (inGroup n)) (h .orders) ≤ length (h .orders) * 0 =
+    total-bound (openIn (inGroup n)) (boughtIn (inGroup n)) (soldIn (inGroup n)) (h .orders) noOrder 0 (λ i q. none-share n (getD (h .orders) i noOrder) (a i q)) in
+    let x : total (openIn (inGroup n)) (h .orders) ≡ 0 = omega arith in
+    let y : total (boughtIn (inGroup n)) (h .orders) ≡ 0 = omega arith in
+    let z : total (soldIn (inGroup n)) (h .orders) ≡ 0 = omega arith in
+    rw (x, y, z)
+
 -- a book whose first word is N, and every other word 0
 pub opening-words : (N : ℕ) (bs ps : List ℕ) → placesOf bs ≡ N → ((p : ℕ) → 1 ≤ p → getD bs p 0 ≡ 0) → OrderSim N atOpening bs ps
 opening-words N bs ps n w = empty-sim N atOpening bs ps refl n (w 1 (omega arith)) (λ g. money-zeros bs g w)
@@ -89,7 +104,7 @@ opening-sim N bs ps e =
 -- as many groups or more, the same orders
 module _ (N : ℕ) (h h′ : History) (bs ps : List ℕ) (orders : h′ .orders ≡ h .orders) (groups : length (h .groups) ≤ length (h′ .groups)) where
   money-kept : (g : ℕ) → moneyOf h′ g ≡ moneyOf h g
-  unfolding moneyOf
+  unfolding moneyIn
   money-kept g = rw orders
 
   pub same-orders : OrderSim N h bs ps → OrderSim N h′ bs ps
@@ -223,7 +238,7 @@ module _ (N : ℕ) (h : History) (rs bs ps : List ℕ) (host : hostOk rs bs ps �
 
   -- the money of every group, enrolled or not, is in its range
   pub money-in : (g : ℕ) → InMoney (moneyAt bs g)
-  money-in g = rw (s .money g) (fits-in (moneyOf h g) (money-fits (length (h .groups)) h (s .known) (omega (arith, counts)) g))
+  money-in g = rw (s .money g) (fits-in (moneyOf h g) (money-fits (length (h .groups)) h (s .known) (omega (arith, counts)) (inGroup g)))
 
   -- so the host stays sound under every other sound register, with a group more too
   pub host-again : (rs′ : List ℕ) → asks.isSound rs′ ≡ true → hostOk rs′ bs ps ≡ true
@@ -267,6 +282,12 @@ module _ (N : ℕ) (h : History) (rs bs ps : List ℕ) (a : Asked h rs) (host : 
   groups-few : groups ≤ 64
   groups-few = omega (arith, groups-most rs (a .sound), a .enrolled)
 
+  -- the next group has no money, so call 1 writes what stands there
+  pub enrol-book : putMoney bs (asks.groupsEnrolled rs) noMoney ≡ bs
+  enrol-book =
+      no-money-put bs (asks.groupsEnrolled rs) ((host-known rs bs ps host) .book .book-length)
+      (s .money (asks.groupsEnrolled rs) ∙ ap (moneyOf h) (a .enrolled) ∙ money-none (length (h .groups)) h (s .known))
+
   book : BookKnown bs ps (asks.groupsEnrolled rs)
   book = (host-known rs bs ps host) .book
 
@@ -286,7 +307,7 @@ module _ (N : ℕ) (h : History) (rs bs ps : List ℕ) (a : Asked h rs) (host : 
     more-known = all-append groups (h .orders) o (s .known) ok
 
     more-fits : (g : ℕ) → booked.moneyFits (moneyOf more g) ≡ true
-    more-fits g = money-fits groups more more-known (omega (arith, more-count, counts N h rs bs ps host s)) g
+    more-fits g = money-fits groups more more-known (omega (arith, more-count, counts N h rs bs ps host s)) (inGroup g)
 
     abbrev more-book : List ℕ
     more-book = putAccepted (putMoney bs (o .group) (moneyOf more (o .group))) (n + 1)
@@ -349,7 +370,7 @@ module _ (N : ℕ) (h : History) (rs bs ps : List ℕ) (a : Asked h rs) (host : 
     changed-count = length-set (h .orders) (k - 1) (withOpen (orderAt h k) left fs)
 
     changed-fits : (g : ℕ) → booked.moneyFits (moneyOf changed g) ≡ true
-    changed-fits g = money-fits groups changed changed-known (omega (arith, changed-count, counts N h rs bs ps host s)) g
+    changed-fits g = money-fits groups changed changed-known (omega (arith, changed-count, counts N h rs bs ps host s)) (inGroup g)
 
     abbrev changed-book : List ℕ
     changed-book = putMoney bs ((orderAt h k) .group) (moneyOf changed ((orderAt h k) .group))
@@ -402,7 +423,7 @@ module _ (N : ℕ) (rule : Rule) (h : History) (rs bs ps : List ℕ) (a : Asked 
   order-reads : (u : ℕ) → past.isAttached h u ≡ true → calls.orderReads rs bs u ≡ past.orderReads N h u
   order-reads u t = rw (a .attached-same u, a .group-same u, a .own-same u t, s .money (past.groupOf h u), s .places, s .accepted)
 
-  order-listed : (u k : ℕ) (p : Mils) (q : ℕ) → calls.orderListed rule rs bs ps u k p q ≡ past.refusalOf N rule h (Order u k p q)
+  pub order-listed : (u k : ℕ) (p : Mils) (q : ℕ) → calls.orderListed rule rs bs ps u k p q ≡ past.refusalOf N rule h (Order u k p q)
   unfolding past.refusals
   order-listed u k p q = rw host (order-alike rule u k p q (calls.orderReads rs bs u) (past.orderReads N h u) (a .attached-same u) (order-reads u))
 
@@ -422,7 +443,7 @@ module _ (N : ℕ) (rule : Rule) (h : History) (rs bs ps : List ℕ) (a : Asked 
     order-booked e =
         let g : ℕ = past.groupOf h u in
         let f = order-known e in
-        let x = more-here h u k p q (past.groupOf h u) in
+        let x = more-here h u k p q (past.groupOf h u) (inGroup (past.groupOf h u)) (eq-eqb (past.groupOf h u) (past.groupOf h u) refl) in
         let y : booked.moneyFits (booked.orderedMoney (moneyOf h (past.groupOf h u)) k p q) ≡ true = ap booked.moneyFits (sym x) ∙ more-fits N h rs bs ps a host s fresh (f .0) (f .1) g in
         rw (a .group-same u, s .money (past.groupOf h u))
         (booking-fits (moneyOf h g) (booked.orderedMoney (moneyOf h g) k p q) y ∙ ap done (sym x))
@@ -446,7 +467,7 @@ module _ (N : ℕ) (rule : Rule) (h : History) (rs bs ps : List ℕ) (a : Asked 
       unfolding accept
       order-sim =
           rw (order-book-is, order-places-is)
-          (more-sim N h rs bs ps a host s fresh ((order-known e) .0) ((order-known e) .1) (more-else h u k p q (past.groupOf h u)))
+          (more-sim N h rs bs ps a host s fresh ((order-known e) .0) ((order-known e) .1) (λ j d. more-else h u k p q (past.groupOf h u) (inGroup j) (ne-eqb (past.groupOf h u) j (λ z. d (sym z)))))
 
       pub order-host : hostOk rs (calls.orderBook rule rs bs ps u k p q) (calls.orderPlaces rule rs bs ps u k p q) ≡ true
       order-host = rw (order-book-is, order-places-is) (more-host N h rs bs ps a host s fresh ((order-known e) .0) ((order-known e) .1))
@@ -511,10 +532,10 @@ module _ (N : ℕ) (rule : Rule) (h : History) (rs bs ps : List ℕ) (a : Asked 
         let f = fill-facts e in
         let g : ℕ = (orderAt h k) .group in
         let i : k - 1 < length (h .orders) = omega (arith, f .low, f .high) in
-        let x = moved-here h k filling q (p .0 * q) filled-now i (omega (arith, f .most)) (filled-more (orderAt h k) p q) in
+        let x = moved-here h k filling q (p .0 * q) filled-now i (omega (arith, f .most)) (filled-more (orderAt h k) p q) (inGroup g) (eq-eqb g g refl) in
         let y = ap booked.moneyFits (sym x) ∙ changed-fits N h rs bs ps a host s k filling filled-now (f .low) (f .high) (f .ok) g in
         rw (s .stands k (f .low) (f .high), s .money ((orderAt h k) .group))
-        (booking-off-fits (moneyOf h g) (booked.openTaken (placeOf (orderAt h k)) q) (booked.filledMoney (moneyOf h g) (placeOf (orderAt h k)) p q) (open-part h (k - 1) q i (f .most)) y ∙ ap done (sym x))
+        (booking-off-fits (moneyOf h g) (booked.openTaken (placeOf (orderAt h k)) q) (booked.filledMoney (moneyOf h g) (placeOf (orderAt h k)) p q) (open-part h (inGroup g) (k - 1) q i (eq-eqb g g refl) (f .most)) y ∙ ap done (sym x))
 
     pub fill-same : calls.fillRefusal rs bs ps k p q ≡ past.refusalOf N rule h (Fill k p q)
     unfolding calls.fillRefusal
@@ -537,7 +558,7 @@ module _ (N : ℕ) (rule : Rule) (h : History) (rs bs ps : List ℕ) (a : Asked 
           let f = fill-facts e in
           rw (fill-book-is, fill-places-is)
           (changed-sim N h rs bs ps a host s k filling filled-now (f .low) (f .high) (f .ok)
-          (moved-else h k filling q (p .0 * q) filled-now (omega (arith, f .low, f .high)) (omega (arith, f .most)) (filled-more (orderAt h k) p q)))
+          (λ j d. moved-else h k filling q (p .0 * q) filled-now (omega (arith, f .low, f .high)) (omega (arith, f .most)) (filled-more (orderAt h k) p q) (inGroup j) (ne-eqb ((orderAt h k) .group) j (λ z. d (sym z)))))
 
       pub fill-host : hostOk rs (calls.fillBook rs bs ps k p q) (calls.fillPlaces rs bs ps k p q) ≡ true
       fill-host =
@@ -571,7 +592,7 @@ module _ (N : ℕ) (rule : Rule) (h : History) (rs bs ps : List ℕ) (a : Asked 
     cancel-here i =
         let b : (moneyOf h ((orderAt h k) .group)) .bought .0 + 0 ≡ (moneyOf h ((orderAt h k) .group)) .bought .0 = omega arith in
         let c : (moneyOf h ((orderAt h k) .group)) .sold .0 + 0 ≡ (moneyOf h ((orderAt h k) .group)) .sold .0 = omega arith in
-        moved-here h k 0 ((orderAt h k) .«open») 0 ((orderAt h k) .fills) i (omega arith) nothing-more
+        moved-here h k 0 ((orderAt h k) .«open») 0 ((orderAt h k) .fills) i (omega arith) nothing-more (inGroup ((orderAt h k) .group)) (eq-eqb ((orderAt h k) .group) ((orderAt h k) .group) refl)
         ∙ rw (when-zero (isBuy ((orderAt h k) .kind)), when-zero (not (isBuy ((orderAt h k) .kind))), b, c)
 
     cancel-booked : past.refusalOf N rule h (Cancel k) ≡ 0 → calls.cancelBooked bs ps k ≡ done (moneyOf (accept h (Cancel k)) ((orderAt h k) .group))
@@ -583,7 +604,7 @@ module _ (N : ℕ) (rule : Rule) (h : History) (rs bs ps : List ℕ) (a : Asked 
         let x = cancel-here i in
         let y = ap booked.moneyFits (sym x) ∙ changed-fits N h rs bs ps a host s k 0 ((orderAt h k) .fills) (f .low) (f .high) (f .ok) g in
         rw (s .stands k (f .low) (f .high), s .money ((orderAt h k) .group))
-        (booking-off-fits (moneyOf h g) (booked.openTaken (placeOf (orderAt h k)) ((orderAt h k) .«open»)) (booked.cancelledMoney (moneyOf h g) (placeOf (orderAt h k))) (open-part h (k - 1) ((orderAt h k) .«open») i (omega arith)) y ∙ ap done (sym x))
+        (booking-off-fits (moneyOf h g) (booked.openTaken (placeOf (orderAt h k)) ((orderAt h k) .«open»)) (booked.cancelledMoney (moneyOf h g) (placeOf (orderAt h k))) (open-part h (inGroup g) (k - 1) ((orderAt h k) .«open») i (eq-eqb g g refl) (omega arith)) y ∙ ap done (sym x))
 
     pub cancel-same : calls.cancelRefusal rs bs ps k ≡ past.refusalOf N rule h (Cancel k)
     unfolding calls.cancelRefusal
@@ -606,7 +627,7 @@ module _ (N : ℕ) (rule : Rule) (h : History) (rs bs ps : List ℕ) (a : Asked 
           let f = cancel-facts e in
           rw (cancel-book-is, cancel-places-is)
           (changed-sim N h rs bs ps a host s k 0 ((orderAt h k) .fills) (f .low) (f .high) (f .ok)
-          (moved-else h k 0 ((orderAt h k) .«open») 0 ((orderAt h k) .fills) (omega (arith, f .low, f .high)) (omega arith) nothing-more))
+          (λ j d. moved-else h k 0 ((orderAt h k) .«open») 0 ((orderAt h k) .fills) (omega (arith, f .low, f .high)) (omega arith) nothing-more (inGroup j) (ne-eqb ((orderAt h k) .group) j (λ z. d (sym z)))))
 
       pub cancel-host : hostOk rs (calls.cancelBook rs bs ps k) (calls.cancelPlaces rs bs ps k) ≡ true
       cancel-host =

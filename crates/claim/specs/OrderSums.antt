@@ -18,7 +18,7 @@ use Rattle.rules.specs.Sums.{when, when-add, when-zero, total, total-append, to
 use Rattle.rules.specs.declared.money.Mils.{Mils}
 use Rattle.rules.specs.declared.kinds.Money.{Money}
 use Rattle.words.specs.Each.{same}
-use Rattle.history.specs.Past.{Filled, Ordered, History, noOrder, orderAt, filledMoney, openIn, boughtIn, soldIn, moneyOf}
+use Rattle.history.specs.Past.{Filled, Ordered, History, Part, belongs, noOrder, orderAt, filledMoney, openIn, boughtIn, soldIn, moneyIn}
 use Rattle.history.specs.Runs.{withOrders, withOpen, changedOrder, ordered, filled, cancelled}
 use Rattle.book.specs.Known.{price-most}
 use Rattle.orders.specs.Booking.{moneyFits, openTaken}
@@ -46,16 +46,16 @@ unfolding when
 when-most true x y h = h
 when-most false x y h = omega arith
 
--- ---- 1: no group's money passes L
+-- ---- 1: no part's money passes L
 
 -- of each order of a list this is known
 abbrev pub AllKnown : ℕ → List Ordered → Type 0
 AllKnown n l = (i : ℕ) → i < length l → OrderKnown n (getD l i noOrder)
 
 -- one order's share is at most the top price for the top quantity
-share : (n g : ℕ) (o : Ordered) → OrderKnown n o → openIn g o + boughtIn g o + soldIn g o ≤ topPrice * topQuantity
+pub share : (n : ℕ) (w : Part) (o : Ordered) → OrderKnown n o → openIn w o + boughtIn w o + soldIn w o ≤ topPrice * topQuantity
 unfolding openIn boughtIn soldIn when
-share n g o k = go (eqb (o .group) g) (isBuy (o .kind))
+share n w o k = go (belongs w o) (isBuy (o .kind))
   where
     le : o .price .0 * o .«open» ≤ topPrice * o .«open»
     le = mul-le-mul-right (o .«open») (price-most (o .kind) (o .price) (k .priced))
@@ -65,14 +65,14 @@ share n g o k = go (eqb (o .group) g) (isBuy (o .kind))
     go true true = omega (arith, le, k .amount)
     go true false = omega (arith, le, k .amount)
 
-pub money-bound : (n : ℕ) (l : List Ordered) → AllKnown n l → (g : ℕ) → total (openIn g) l + total (boughtIn g) l + total (soldIn g) l ≤ length l * (topPrice * topQuantity)
-money-bound n l a g = total-bound (openIn g) (boughtIn g) (soldIn g) l noOrder (topPrice * topQuantity) (λ i q. share n g (getD l i noOrder) (a i q))
+pub money-bound : (n : ℕ) (l : List Ordered) → AllKnown n l → (w : Part) → total (openIn w) l + total (boughtIn w) l + total (soldIn w) l ≤ length l * (topPrice * topQuantity)
+money-bound n l a w = total-bound (openIn w) (boughtIn w) (soldIn w) l noOrder (topPrice * topQuantity) (λ i q. share n w (getD l i noOrder) (a i q))
 
-pub money-fits : (n : ℕ) (h : History) → AllKnown n (h .orders) → length (h .orders) ≤ 65_536 → (g : ℕ) → moneyFits (moneyOf h g) ≡ true
-unfolding moneyFits moneyOf
-money-fits n h a m g =
-    le-leb (total (openIn g) (h .orders) + total (boughtIn g) (h .orders) + total (soldIn g) (h .orders)) topMoney
-    (omega (arith, money-bound n (h .orders) a g))
+pub money-fits : (n : ℕ) (h : History) → AllKnown n (h .orders) → length (h .orders) ≤ 65_536 → (w : Part) → moneyFits (moneyIn h w) ≡ true
+unfolding moneyFits moneyIn
+money-fits n h a m w =
+    le-leb (total (openIn w) (h .orders) + total (boughtIn w) (h .orders) + total (soldIn w) (h .orders)) topMoney
+    (omega (arith, money-bound n (h .orders) a w))
 
 -- ---- 2: what is known of an order is kept
 
@@ -125,22 +125,22 @@ all-set n l j o z a k i h =
     (λ e. rw (e, getD-set-same l j o noOrder z) k)
     (λ e. rw (getD-set-other l j i o noOrder e) (a i (rw length-set at h)))
 
--- ---- 3: an order's open money is part of its group's
+-- ---- 3: an order's open money is in every part that it belongs to
 
-open-here : (o : Ordered) → openIn (o .group) o ≡ when (isBuy (o .kind)) (o .price .0 * o .«open»)
+open-here : (w : Part) (o : Ordered) → belongs w o ≡ true → openIn w o ≡ when (isBuy (o .kind)) (o .price .0 * o .«open»)
 unfolding openIn when
-open-here o = rw (eq-eqb (o .group) (o .group) refl)
+open-here w o e = rw e
 
-pub open-part : (h : History) (i q : ℕ) → i < length (h .orders) → q ≤ (getD (h .orders) i noOrder) .«open»
-    → openTaken (placeOf (getD (h .orders) i noOrder)) q ≤ (moneyOf h ((getD (h .orders) i noOrder) .group)) .«open» .0
-unfolding moneyOf
-open-part h i q z m =
+pub open-part : (h : History) (w : Part) (i q : ℕ) → i < length (h .orders) → belongs w (getD (h .orders) i noOrder) ≡ true → q ≤ (getD (h .orders) i noOrder) .«open»
+    → openTaken (placeOf (getD (h .orders) i noOrder)) q ≤ (moneyIn h w) .«open» .0
+unfolding moneyIn
+open-part h w i q z e m =
     let o : Ordered = getD (h .orders) i noOrder in
     omega (
       arith,
       when-most (isBuy (o .kind)) (o .price .0 * q) (o .price .0 * o .«open») (mul-le-mul-left (o .price .0) m),
-      open-here o,
-      total-part (openIn (o .group)) (h .orders) i noOrder z,
+      open-here w o e,
+      total-part (openIn w) (h .orders) i noOrder z,
     )
 
 -- ---- how money moves
@@ -153,92 +153,93 @@ module _ (h : History) (u k : ℕ) (p : Mils) (q g : ℕ) where
   abbrev fresh : Ordered
   fresh = ordered u k p q g
 
-  fresh-open : (j : ℕ) → openIn j fresh ≡ when (eqb g j) (when (isBuy k) (p .0 * q))
+  fresh-open : (w : Part) → openIn w fresh ≡ when (w u g) (when (isBuy k) (p .0 * q))
   unfolding openIn
-  fresh-open j = refl
+  fresh-open w = refl
 
-  fresh-bought : (j : ℕ) → boughtIn j fresh ≡ 0
+  fresh-bought : (w : Part) → boughtIn w fresh ≡ 0
   unfolding boughtIn filledMoney total
-  fresh-bought j = simp when-zero
+  fresh-bought w = simp when-zero
 
-  fresh-sold : (j : ℕ) → soldIn j fresh ≡ 0
+  fresh-sold : (w : Part) → soldIn w fresh ≡ 0
   unfolding soldIn filledMoney total
-  fresh-sold j = simp when-zero
+  fresh-sold w = simp when-zero
 
-  more-money : (j : ℕ) → moneyOf (withOrders h (h .orders ++ (fresh ∷ []))) j ≡ record { «open» = mils ((moneyOf h j) .«open» .0 + when (eqb g j) (when (isBuy k) (p .0 * q))); bought = (moneyOf h j) .bought; sold = (moneyOf h j) .sold }
-  unfolding moneyOf
-  more-money j =
+  more-money : (w : Part) → moneyIn (withOrders h (h .orders ++ (fresh ∷ []))) w ≡ record { «open» = mils ((moneyIn h w) .«open» .0 + when (w u g) (when (isBuy k) (p .0 * q))); bought = (moneyIn h w) .bought; sold = (moneyIn h w) .sold }
+  unfolding moneyIn
+  more-money w =
       let l = h .orders in
       money-alike
-      (total (openIn j) (l ++ (fresh ∷ []))) (total (boughtIn j) (l ++ (fresh ∷ []))) (total (soldIn j) (l ++ (fresh ∷ [])))
-      (total (openIn j) l + when (eqb g j) (when (isBuy k) (p .0 * q))) (total (boughtIn j) l) (total (soldIn j) l)
-      (omega (arith, total-append (openIn j) l fresh, fresh-open j))
-      (omega (arith, total-append (boughtIn j) l fresh, fresh-bought j))
-      (omega (arith, total-append (soldIn j) l fresh, fresh-sold j))
+      (total (openIn w) (l ++ (fresh ∷ []))) (total (boughtIn w) (l ++ (fresh ∷ []))) (total (soldIn w) (l ++ (fresh ∷ [])))
+      (total (openIn w) l + when (w u g) (when (isBuy k) (p .0 * q))) (total (boughtIn w) l) (total (soldIn w) l)
+      (omega (arith, total-append (openIn w) l fresh, fresh-open w))
+      (omega (arith, total-append (boughtIn w) l fresh, fresh-bought w))
+      (omega (arith, total-append (soldIn w) l fresh, fresh-sold w))
 
-  pub more-here : moneyOf (withOrders h (h .orders ++ (fresh ∷ []))) g ≡ record { «open» = mils ((moneyOf h g) .«open» .0 + when (isBuy k) (p .0 * q)); bought = (moneyOf h g) .bought; sold = (moneyOf h g) .sold }
+  -- a part that it belongs to, and one that it doesn't
+  pub more-here : (w : Part) → w u g ≡ true → moneyIn (withOrders h (h .orders ++ (fresh ∷ []))) w ≡ record { «open» = mils ((moneyIn h w) .«open» .0 + when (isBuy k) (p .0 * q)); bought = (moneyIn h w) .bought; sold = (moneyIn h w) .sold }
   unfolding when
-  more-here = rw (eq-eqb g g refl) at (more-money g)
+  more-here w e = rw e at (more-money w)
 
-  pub more-else : (j : ℕ) → j ≢ g → moneyOf (withOrders h (h .orders ++ (fresh ∷ []))) j ≡ moneyOf h j
-  unfolding when moneyOf
-  more-else j d =
-      let e : total (openIn j) (h .orders) + 0 ≡ total (openIn j) (h .orders) = omega arith in
-      (rw (ne-eqb g j (λ z. d (sym z))) at (more-money j))
-      ∙ money-alike (total (openIn j) (h .orders) + 0) (total (boughtIn j) (h .orders)) (total (soldIn j) (h .orders)) (total (openIn j) (h .orders)) (total (boughtIn j) (h .orders)) (total (soldIn j) (h .orders)) e refl refl
+  pub more-else : (w : Part) → w u g ≡ false → moneyIn (withOrders h (h .orders ++ (fresh ∷ []))) w ≡ moneyIn h w
+  unfolding when moneyIn
+  more-else w d =
+      let e : total (openIn w) (h .orders) + 0 ≡ total (openIn w) (h .orders) = omega arith in
+      (rw d at (more-money w))
+      ∙ money-alike (total (openIn w) (h .orders) + 0) (total (boughtIn w) (h .orders)) (total (soldIn w) (h .orders)) (total (openIn w) (h .orders)) (total (boughtIn w) (h .orders)) (total (soldIn w) (h .orders)) e refl refl
 
 -- y off an order's open quantity, n left, x more money in its fills
 module _ (o : Ordered) (n y x : ℕ) (fs : List Filled) (less : o .«open» ≡ n + y) (more : filledMoney (withOpen o n fs) ≡ filledMoney o + x) where
-  open-moved : (g : ℕ) → openIn g o ≡ openIn g (withOpen o n fs) + when (eqb (o .group) g) (when (isBuy (o .kind)) (o .price .0 * y))
+  open-moved : (w : Part) → openIn w o ≡ openIn w (withOpen o n fs) + when (belongs w o) (when (isBuy (o .kind)) (o .price .0 * y))
   unfolding openIn
-  open-moved g =
+  open-moved w =
       let e : o .price .0 * o .«open» ≡ o .price .0 * n + o .price .0 * y = ap (λ z. o .price .0 * z) less ∙ mul-add (o .price .0) n y in
-      rw (← when-add, ← when-add) (ap (λ z. when (eqb (o .group) g) (when (isBuy (o .kind)) z)) e)
+      rw (← when-add, ← when-add) (ap (λ z. when (belongs w o) (when (isBuy (o .kind)) z)) e)
 
-  bought-moved : (g : ℕ) → boughtIn g (withOpen o n fs) ≡ boughtIn g o + when (eqb (o .group) g) (when (isBuy (o .kind)) x)
+  bought-moved : (w : Part) → boughtIn w (withOpen o n fs) ≡ boughtIn w o + when (belongs w o) (when (isBuy (o .kind)) x)
   unfolding boughtIn
-  bought-moved g = rw (more, when-add, when-add)
+  bought-moved w = rw (more, when-add, when-add)
 
-  sold-moved : (g : ℕ) → soldIn g (withOpen o n fs) ≡ soldIn g o + when (eqb (o .group) g) (when (not (isBuy (o .kind))) x)
+  sold-moved : (w : Part) → soldIn w (withOpen o n fs) ≡ soldIn w o + when (belongs w o) (when (not (isBuy (o .kind))) x)
   unfolding soldIn
-  sold-moved g = rw (more, when-add, when-add)
+  sold-moved w = rw (more, when-add, when-add)
 
 module _ (h : History) (k n y x : ℕ) (fs : List Filled) (hk : k - 1 < length (h .orders)) (less : (orderAt h k) .«open» ≡ n + y) (more : filledMoney (withOpen (orderAt h k) n fs) ≡ filledMoney (orderAt h k) + x) where
   abbrev now : Ordered
   now = withOpen (orderAt h k) n fs
 
-  moved-money : (j : ℕ) → moneyOf (changedOrder h k now) j ≡ record {
-    «open» = mils ((moneyOf h j) .«open» .0 - when (eqb ((orderAt h k) .group) j) (when (isBuy ((orderAt h k) .kind)) ((orderAt h k) .price .0 * y)));
-    bought = mils ((moneyOf h j) .bought .0 + when (eqb ((orderAt h k) .group) j) (when (isBuy ((orderAt h k) .kind)) x));
-    sold = mils ((moneyOf h j) .sold .0 + when (eqb ((orderAt h k) .group) j) (when (not (isBuy ((orderAt h k) .kind))) x));
+  moved-money : (w : Part) → moneyIn (changedOrder h k now) w ≡ record {
+    «open» = mils ((moneyIn h w) .«open» .0 - when (belongs w (orderAt h k)) (when (isBuy ((orderAt h k) .kind)) ((orderAt h k) .price .0 * y)));
+    bought = mils ((moneyIn h w) .bought .0 + when (belongs w (orderAt h k)) (when (isBuy ((orderAt h k) .kind)) x));
+    sold = mils ((moneyIn h w) .sold .0 + when (belongs w (orderAt h k)) (when (not (isBuy ((orderAt h k) .kind))) x));
   }
-  unfolding moneyOf
-  moved-money j =
+  unfolding moneyIn
+  moved-money w =
       let l = h .orders in
       let o : Ordered = orderAt h k in
       money-alike
-      (total (openIn j) (set l (k - 1) now)) (total (boughtIn j) (set l (k - 1) now)) (total (soldIn j) (set l (k - 1) now))
-      (total (openIn j) l - when (eqb (o .group) j) (when (isBuy (o .kind)) (o .price .0 * y)))
-      (total (boughtIn j) l + when (eqb (o .group) j) (when (isBuy (o .kind)) x))
-      (total (soldIn j) l + when (eqb (o .group) j) (when (not (isBuy (o .kind))) x))
-      (omega (arith, total-set (openIn j) l (k - 1) now noOrder hk, open-moved o n y x fs less more j))
-      (omega (arith, total-set (boughtIn j) l (k - 1) now noOrder hk, bought-moved o n y x fs less more j))
-      (omega (arith, total-set (soldIn j) l (k - 1) now noOrder hk, sold-moved o n y x fs less more j))
+      (total (openIn w) (set l (k - 1) now)) (total (boughtIn w) (set l (k - 1) now)) (total (soldIn w) (set l (k - 1) now))
+      (total (openIn w) l - when (belongs w o) (when (isBuy (o .kind)) (o .price .0 * y)))
+      (total (boughtIn w) l + when (belongs w o) (when (isBuy (o .kind)) x))
+      (total (soldIn w) l + when (belongs w o) (when (not (isBuy (o .kind))) x))
+      (omega (arith, total-set (openIn w) l (k - 1) now noOrder hk, open-moved o n y x fs less more w))
+      (omega (arith, total-set (boughtIn w) l (k - 1) now noOrder hk, bought-moved o n y x fs less more w))
+      (omega (arith, total-set (soldIn w) l (k - 1) now noOrder hk, sold-moved o n y x fs less more w))
 
-  pub moved-here : moneyOf (changedOrder h k now) ((orderAt h k) .group) ≡ record {
-    «open» = mils ((moneyOf h ((orderAt h k) .group)) .«open» .0 - when (isBuy ((orderAt h k) .kind)) ((orderAt h k) .price .0 * y));
-    bought = mils ((moneyOf h ((orderAt h k) .group)) .bought .0 + when (isBuy ((orderAt h k) .kind)) x);
-    sold = mils ((moneyOf h ((orderAt h k) .group)) .sold .0 + when (not (isBuy ((orderAt h k) .kind))) x);
+  pub moved-here : (w : Part) → belongs w (orderAt h k) ≡ true → moneyIn (changedOrder h k now) w ≡ record {
+    «open» = mils ((moneyIn h w) .«open» .0 - when (isBuy ((orderAt h k) .kind)) ((orderAt h k) .price .0 * y));
+    bought = mils ((moneyIn h w) .bought .0 + when (isBuy ((orderAt h k) .kind)) x);
+    sold = mils ((moneyIn h w) .sold .0 + when (not (isBuy ((orderAt h k) .kind))) x);
   }
   unfolding when
-  moved-here = rw (eq-eqb ((orderAt h k) .group) ((orderAt h k) .group) refl) at (moved-money ((orderAt h k) .group))
+  moved-here w e = rw e at (moved-money w)
 
-  pub moved-else : (j : ℕ) → j ≢ (orderAt h k) .group → moneyOf (changedOrder h k now) j ≡ moneyOf h j
-  unfolding when moneyOf
-  moved-else j d =
+  pub moved-else : (w : Part) → belongs w (orderAt h k) ≡ false → moneyIn (changedOrder h k now) w ≡ moneyIn h w
+  unfolding when moneyIn
+  moved-else w d =
       let l = h .orders in
-      let a : total (openIn j) l - 0 ≡ total (openIn j) l = omega arith in
-      let b : total (boughtIn j) l + 0 ≡ total (boughtIn j) l = omega arith in
-      let c : total (soldIn j) l + 0 ≡ total (soldIn j) l = omega arith in
-      (rw (ne-eqb ((orderAt h k) .group) j (λ z. d (sym z))) at (moved-money j))
-      ∙ money-alike (total (openIn j) l - 0) (total (boughtIn j) l + 0) (total (soldIn j) l + 0) (total (openIn j) l) (total (boughtIn j) l) (total (soldIn j) l) a b c
+      let a : total (openIn w) l - 0 ≡ total (openIn w) l = omega arith in
+      let b : total (boughtIn w) l + 0 ≡ total (boughtIn w) l = omega arith in
+      let c : total (soldIn w) l + 0 ≡ total (soldIn w) l = omega arith in
+      (rw d at (moved-money w))
+      ∙ money-alike (total (openIn w) l - 0) (total (boughtIn w) l + 0) (total (soldIn w) l + 0) (total (openIn w) l) (total (boughtIn w) l) (total (soldIn w) l) a b c

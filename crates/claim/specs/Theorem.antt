@@ -5,7 +5,7 @@ use mathlib.Core.Bool.{Bool, true, false, not, _&&_}
 use mathlib.Core.Logic.{_≢_, _↔_}
 use mathlib.Core.List.{List, [], _∷_, _++_}
 use native.Mathlib.Omega.{arith}
-use borrow.Author.Tests.{eqb-true, ltb-true, lt-ltb, lt-leb, not-false}
+use borrow.Author.Tests.{eq-eqb, eqb-true, ltb-true, lt-ltb, lt-leb, not-false}
 use lib.Dec.{eqb, ltb, leb}
 use lib.IntN.{ℤ, pos}
 use lib.Signed.{ltZ}
@@ -29,7 +29,7 @@ use Rattle.rules.specs.declared.kinds.Money.{Money}
 use Rattle.rules.specs.declared.calls.Call.{Call}
 use Rattle.rules.specs.declared.calls.Call.the-variants.{Enrol, Attach, Detach, Regular, Raise, Withdraw, OwnQuota, Order, Fill, Cancel, Close}
 use Rattle.rules.specs.declared.calls.Answer.{Answer}
-use Rattle.history.specs.Past.{History, atOpening, moneyOf, netIn}
+use Rattle.history.specs.Past.{History, atOpening, inGroup, moneyIn, moneyOf, netIn}
 use Rattle.history.specs.Past as past
 use Rattle.history.specs.Answers.{isAttached, groupOf, orderReads, refusalOf, refusals, numberGiven, answer}
 use Rattle.history.specs.Runs.{accept, next, after, answers}
@@ -44,7 +44,7 @@ use Rattle.register.specs.Layout.{groupCount}
 use Rattle.orders.specs.Host.{hostOk}
 use Rattle.orders.specs.Calls as orders
 use Rattle.orders.specs.Kept as booked
-use Rattle.claim.specs.Step.{Memory, Stepped, memory, bookSound, onRegister, closing, closingSound, step}
+use Rattle.claim.specs.Step.{Memory, Stepped, memory, bookSound, onRegister, enrolledBook, closing, closingSound, step}
 use Rattle.claim.specs.Relation.{QuotaSim, OrderSim}
 use Rattle.claim.specs.QuotaSim as quotas
 use Rattle.claim.specs.OrderSums.{more-here}
@@ -63,7 +63,7 @@ pub record Steps (N : ℕ) (rule : Rule) (h : History) (m : Memory) (c : Call) :
   pub same : (step rule m c) .answer ≡ answer N rule h c
   pub sim : Sim N (next N rule h c) ((step rule m c) .memory)
 
-asked : (h : History) (rs : List ℕ) → QuotaSim h rs → books.Asked h rs
+pub asked : (h : History) (rs : List ℕ) → QuotaSim h rs → books.Asked h rs
 asked h rs s = record {
   sound = quotas.asks-sound h rs s;
   enrolled = quotas.asks-groups h rs s;
@@ -121,7 +121,13 @@ module _ (N : ℕ) (rule : Rule) (h : History) (m : Memory) (s : Sim N h m) wher
       (quotas.enrol-kept h (m .register) (s .quota) code class)
       (kept.enrol-refused (m .register) code class)
       (books.enrol-sim N h (m .book) (m .places) (s .order) code class) in
-      record { same = p .0; sim = p .1 }
+      let e : enrolledBook (m .register) (m .book) code class ≡ m .book =
+      either (quota.enrolRefusal (m .register) code class) (books.enrol-book N h (m .register) (m .book) (m .places) (asked h (m .register) (s .quota)) (s .host) (s .order)) in
+      record { same = rw e (p .0); sim = rw e (p .1) }
+    where
+      either : (q : ℕ) {xs ys : List ℕ} → xs ≡ ys → unlessRefused q xs ys ≡ ys
+      either zero f = f
+      either (suc q) f = refl
 
   attach-steps : (unit group : ℕ) → Steps N rule h m (Attach unit group)
   unfolding step numberGiven
@@ -258,7 +264,7 @@ module _ (N : ℕ) (rule : Rule) where
   run-sim [] h m s = s
   run-sim (c ∷ cs) h m s = run-sim cs (next N rule h c) ((step rule m c) .memory) (steps N rule h m s c .sim)
 
-  run-answers : (cs : List Call) (h : History) (m : Memory) → Sim N h m → answersOf rule m cs ≡ answers N rule h cs
+  pub run-answers : (cs : List Call) (h : History) (m : Memory) → Sim N h m → answersOf rule m cs ≡ answers N rule h cs
   unfolding answersOf answers
   run-answers [] h m s = refl
   run-answers (c ∷ cs) h m s =
@@ -269,20 +275,20 @@ module _ (N : ℕ) (rule : Rule) where
 
 open-known : (rs bs ps : List ℕ) → openRefusal rs bs ps ≡ 0 → (eqb (length ps) (4 * placesLent ps) ≡ true) × (isPlaces (placesLent ps) ≡ true)
 unfolding openRefusal
-open-known rs bs ps e = go (eqb (length rs) 1_986 && (eqb (length bs) 194 && places)) refl e
+open-known rs bs ps e = go (eqb (length rs) 2_000 && (eqb (length bs) 194 && places)) refl e
   where
     places : Bool
     places = eqb (length ps) (4 * placesLent ps) && isPlaces (placesLent ps)
 
-    go : (t : Bool) → (eqb (length rs) 1_986 && (eqb (length bs) 194 && places)) ≡ t → pick t 0 UNSOUND ≡ 0 → (eqb (length ps) (4 * placesLent ps) ≡ true) × (isPlaces (placesLent ps) ≡ true)
+    go : (t : Bool) → (eqb (length rs) 2_000 && (eqb (length bs) 194 && places)) ≡ t → pick t 0 UNSOUND ≡ 0 → (eqb (length ps) (4 * placesLent ps) ≡ true) × (isPlaces (placesLent ps) ≡ true)
     go true q z =
-        let a = both (eqb (length rs) 1_986) (eqb (length bs) 194 && places) q in
+        let a = both (eqb (length rs) 2_000) (eqb (length bs) 194 && places) q in
         let b = both (eqb (length bs) 194) places (a .1) in
         both (eqb (length ps) (4 * placesLent ps)) (isPlaces (placesLent ps)) (b .1)
     go false q z = absurd (omega arith)
 
 none-in : (g : ℕ) → InMoney (moneyOf atOpening g)
-unfolding moneyOf total
+unfolding moneyIn total
 none-in g = (omega arith, (omega arith, omega arith))
 
 fresh-host : (ps : List ℕ) (N : ℕ) → eqb (length ps) (4 * N) ≡ true → isPlaces N ≡ true → hostOk freshRegister (freshBook N) ps ≡ true
@@ -328,7 +334,7 @@ row-is N h m s g l =
     }
 
 -- the refusal of a step is the history's
-step-refusal : (N : ℕ) (rule : Rule) (h : History) (m : Memory) → Sim N h m → (c : Call) → (step rule m c) .answer .refusal ≡ refusalOf N rule h c
+pub step-refusal : (N : ℕ) (rule : Rule) (h : History) (m : Memory) → Sim N h m → (c : Call) → (step rule m c) .answer .refusal ≡ refusalOf N rule h c
 unfolding answer
 step-refusal N rule h m s c = ap (λ (a : Answer). a .refusal) (steps N rule h m s c .same) ∙ go (refusalOf N rule h c)
   where
@@ -401,7 +407,7 @@ module _ (N : ℕ) (h : History) (unit kind : ℕ) (price : Mils) (quantity : �
   buy-crosses own e k =
       let g : ℕ = groupOf h unit in
       let m : Money = moneyOf h (groupOf h unit) in
-      let x = more-here h unit kind price quantity (groupOf h unit) in
+      let x = more-here h unit kind price quantity (groupOf h unit) (inGroup (groupOf h unit)) (eq-eqb (groupOf h unit) (groupOf h unit) refl) in
       let p : ltb (m .«open» .0 + m .bought .0) ((milsOf own) .0 + m .sold .0) ≡ true = sym (below-pos (m .«open» .0 + m .bought .0) (m .sold .0) ((milsOf own) .0)) ∙ buy-below own e k in
       let l = ltb-true (m .«open» .0 + m .bought .0) ((milsOf own) .0 + m .sold .0) p in
       rw (x, b)
@@ -413,7 +419,7 @@ unfolding after
 after-one N rule [] h c = refl
 after-one N rule (x ∷ before) h c = after-one N rule before (next N rule h x) c
 
-next-accepted : (N : ℕ) (rule : Rule) (h : History) (c : Call) → refusalOf N rule h c ≡ 0 → next N rule h c ≡ accept h c
+pub next-accepted : (N : ℕ) (rule : Rule) (h : History) (c : Call) → refusalOf N rule h c ≡ 0 → next N rule h c ≡ accept h c
 unfolding next
 next-accepted N rule h c e = rw e
 

@@ -9,7 +9,7 @@ use rules::refusals::UNSOUND;
 use soundness::register_ok;
 
 // Group i after the close.
-fn close_group(register: &mut [u64], i: usize)
+fn close_group(register: &mut [u32], i: usize)
     ensures { λ _. ⌜ now (register .exit) ≡ Rattle.quota.specs.Calls.closedAt (now (register .entry)) i ⌝ }
 {
     let agreed = group_at(register, i);
@@ -17,7 +17,7 @@ fn close_group(register: &mut [u64], i: usize)
 }
 
 // The first n groups after the close.
-fn close_groups(register: &mut [u64], n: usize)
+fn close_groups(register: &mut [u32], n: usize)
     ensures { λ _. ⌜ now (register .exit) ≡ closedBelow (now (register .entry)) n ⌝ }
 {
     let mut i: usize = 0;
@@ -28,7 +28,7 @@ fn close_groups(register: &mut [u64], n: usize)
 }
 
 // The quota part of call 11: 0, or 1 where the register is not sound.
-pub fn close_quotas(register: &mut [u64]) -> u64
+pub fn close_quotas(register: &mut [u32]) -> u64
     ensures { λ r. ⌜ (r ≡ closeRefusal (now (register .entry))) × (now (register .exit) ≡ closeAfter (now (register .entry))) ⌝ }
 {
     if !register_ok(register) {

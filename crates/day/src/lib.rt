@@ -18,7 +18,7 @@ use rules::refusals::MALFORMED;
 
 // The answer to a line, given without its line feed, and the memory after it.
 pub fn answer_line(
-    register: &mut [u64],
+    register: &mut [u32],
     book: &mut [u64],
     places: &mut [u64],
     line: &[u8],
@@ -94,7 +94,7 @@ fn line_end(text: &[u8], i: usize) -> usize
 
 // The line from i to e answered, and its answer printed from at on.
 fn answer_at(
-    register: &mut [u64],
+    register: &mut [u32],
     book: &mut [u64],
     places: &mut [u64],
     text: &[u8],
@@ -119,7 +119,7 @@ pub struct Progress {
 
 // Answers the whole lines of a text, as many as there is room for answers.
 pub fn answer_lines(
-    register: &mut [u64],
+    register: &mut [u32],
     book: &mut [u64],
     places: &mut [u64],
     text: &[u8],

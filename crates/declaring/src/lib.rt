@@ -19,7 +19,7 @@ use vetting::refusal_of_withdraw;
 
 // Call 4. Regular declaration: the last figure of each declarer stands (Articles 8 and 9).
 pub fn regular(
-    register: &mut [u64],
+    register: &mut [u32],
     declarer: u64,
     group: u64,
     base: Millions,
@@ -41,7 +41,7 @@ pub fn regular(
 }
 
 // Call 5. Emergency raise: the maximum at once (Article 13).
-pub fn raise(register: &mut [u64], declarer: u64, group: u64, quota: Millions, flag: u64) -> Answer
+pub fn raise(register: &mut [u32], declarer: u64, group: u64, quota: Millions, flag: u64) -> Answer
     ensures { λ r. ⌜ (r ≡ answered (raiseRefusal (now (register .entry)) declarer group quota flag)) × (now (register .exit) ≡ raiseAfter (now (register .entry)) declarer group quota flag) ⌝ }
 {
     let refusal = refusal_of_raise(register, declarer, group, quota, flag);
@@ -58,7 +58,7 @@ pub fn raise(register: &mut [u64], declarer: u64, group: u64, quota: Millions, f
 }
 
 // Call 6. Withdraw emergency: filed now, in effect at the close.
-pub fn withdraw(register: &mut [u64], declarer: u64, group: u64) -> Answer
+pub fn withdraw(register: &mut [u32], declarer: u64, group: u64) -> Answer
     ensures { λ r. ⌜ (r ≡ answered (withdrawRefusal (now (register .entry)) declarer group)) × (now (register .exit) ≡ withdrawAfter (now (register .entry)) declarer group) ⌝ }
 {
     let refusal = refusal_of_withdraw(register, declarer, group);
@@ -71,7 +71,7 @@ pub fn withdraw(register: &mut [u64], declarer: u64, group: u64) -> Answer
 }
 
 // Call 7. Own quota: holds immediately (Article 14).
-pub fn own_quota(register: &mut [u64], group: u64, quota: Millions) -> Answer
+pub fn own_quota(register: &mut [u32], group: u64, quota: Millions) -> Answer
     ensures { λ r. ⌜ (r ≡ answered (ownQuotaRefusal (now (register .entry)) group quota)) × (now (register .exit) ≡ ownQuotaAfter (now (register .entry)) group quota) ⌝ }
 {
     let refusal = refusal_of_own_quota(register, group, quota);

@@ -15,7 +15,7 @@ use units::add_unit;
 use units::remove_unit;
 
 // Call 1. Enrol group: given the next group number from 0.
-pub fn enrol(register: &mut [u64], code: u64, class: u64) -> Answer
+pub fn enrol(register: &mut [u32], code: u64, class: u64) -> Answer
     ensures { λ r. ⌜ (r ≡ enrolAnswer (now (register .entry)) code class) × (now (register .exit) ≡ enrolAfter (now (register .entry)) code class) ⌝ }
 {
     let refusal = refusal_of_enrol(register, code, class);
@@ -28,7 +28,7 @@ pub fn enrol(register: &mut [u64], code: u64, class: u64) -> Answer
 }
 
 // Call 2. Attach unit.
-pub fn attach(register: &mut [u64], unit: u64, group: u64) -> Answer
+pub fn attach(register: &mut [u32], unit: u64, group: u64) -> Answer
     ensures { λ r. ⌜ (r ≡ answered (attachRefusal (now (register .entry)) unit group)) × (now (register .exit) ≡ attachAfter (now (register .entry)) unit group) ⌝ }
 {
     let refusal = refusal_of_attach(register, unit, group);
@@ -40,7 +40,7 @@ pub fn attach(register: &mut [u64], unit: u64, group: u64) -> Answer
 }
 
 // Call 3. Detach unit: its orders live on.
-pub fn detach(register: &mut [u64], unit: u64) -> Answer
+pub fn detach(register: &mut [u32], unit: u64) -> Answer
     ensures { λ r. ⌜ (r ≡ answered (detachRefusal (now (register .entry)) unit)) × (now (register .exit) ≡ detachAfter (now (register .entry)) unit) ⌝ }
 {
     let refusal = refusal_of_detach(register, unit);

@@ -52,7 +52,7 @@ fn booked_fill(money: Money, place: Place, price: Mils, quantity: u64) -> Booked
 
 // Call 9. Fill: booked at its own price, its quantity off the order's open quantity.
 pub fn fill(
-    register: &[u64],
+    register: &[u32],
     book: &mut [u64],
     places: &mut [u64],
     number: u64,

@@ -14,7 +14,7 @@ use rules::calls::Answer;
 use rules::calls::Call;
 
 // The answer to a call, and the memory after it: Shanghai's step.
-pub fn call(register: &mut [u64], book: &mut [u64], places: &mut [u64], c: Call) -> Answer
+pub fn call(register: &mut [u32], book: &mut [u64], places: &mut [u64], c: Call) -> Answer
     ensures { λ r. ⌜ (r ≡ (step shanghai (memory (now (register .entry)) (now (book .entry)) (now (places .entry))) c) .answer)
         × (memory (now (register .exit)) (now (book .exit)) (now (places .exit)) ≡ (step shanghai (memory (now (register .entry)) (now (book .entry)) (now (places .entry))) c) .memory) ⌝ }
 {

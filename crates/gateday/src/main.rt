@@ -34,7 +34,7 @@ fn read_behind(input: &mut [u8], filled: usize) -> usize
 
 // The lines of the text from `from` on, as many as there is room for answers, answered and printed. Answers how many bytes they took.
 fn print_some(
-    register: &mut [u64],
+    register: &mut [u32],
     book: &mut [u64],
     places: &mut [u64],
     text: &[u8],
@@ -53,7 +53,7 @@ fn print_some(
 
 // Every whole line of the text answered and printed. Answers how many bytes they took.
 fn print_lines(
-    register: &mut [u64],
+    register: &mut [u32],
     book: &mut [u64],
     places: &mut [u64],
     text: &[u8],
@@ -74,7 +74,7 @@ fn print_lines(
 }
 
 // "and at the end the listing": a line without line feed first, where one is left.
-fn print_end(register: &[u64], book: &[u64], places: &[u64], rest: usize, out: &mut [u8]) {
+fn print_end(register: &[u32], book: &[u64], places: &[u64], rest: usize, out: &mut [u8]) {
     let n = answer_rest(rest, out);
     print(out, n);
     let refusal = write(register, book, places, out);
@@ -90,7 +90,7 @@ fn print_end(register: &[u64], book: &[u64], places: &[u64], rest: usize, out: &
 // The whole input, line by line. A loop has to end, and nothing says that an input does: it counts its turns down from a number that no run
 // uses up.
 fn print_day(
-    register: &mut [u64],
+    register: &mut [u32],
     book: &mut [u64],
     places: &mut [u64],
     input: &mut [u8],
@@ -113,7 +113,7 @@ fn print_day(
 }
 
 fn main() {
-    let mut register = [0u64; 1986];
+    let mut register = [0u32; 2000];
     let mut book = [0u64; 194];
     let mut places = [0u64; 8192];
     let mut input = io::large_buffer();

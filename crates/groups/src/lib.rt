@@ -3,7 +3,8 @@ ghost use mathlib.Core.Path.{_≡_};
 ghost use mathlib.Core.Bool.{not};
 ghost use mathlib.Core.List.{[]};
 ghost use lib.ListN.{length};
-ghost use Rattle.register.specs.Layout.{figuresOf, groupOf, wordsOf, groupAt, putGroup, groupCount, addGroup, isGroup, isTaken};
+ghost use Prim.Native.Nat.{_<_};
+ghost use Rattle.register.specs.Layout.{place as placeOf, recordAt, putWords, figuresOf, groupOf, wordsOf, groupAt, putGroup, groupCount, addGroup, isGroup, isTaken};
 ghost use Rattle.words.specs.Each.{allBelow};
 use codec::emergency_of;
 use codec::figure_word;
@@ -12,15 +13,18 @@ use codec::limit_of;
 use codec::limit_word;
 use figures::Figures;
 use register::groups::Group;
-use register::layout::FIRST_GROUP;
+use register::layout::FIRST_DECLARER;
+use register::layout::FIRST_FIGURE;
+use register::layout::FIRST_SCALAR;
 use register::layout::GROUPS;
+use register::layout::RECORD;
 use register::layout::REGISTER;
-use register::layout::STRIDE;
 use rules::limits::smaller;
 use rules::money::Millions;
 use rules::quotas::Quota;
-use words::store;
-use words::word;
+use words::low;
+use words::wide;
+use words::word32;
 
 fn figures_of(w: &[u64]) -> Figures
     requires { ⌜ length (now w) ≡ 23 ⌝ }
@@ -118,8 +122,50 @@ fn no_group() -> Group
     group_of(&[0u64; 23])
 }
 
+// Where word k of group i stands.
+fn place(i: usize, k: usize) -> usize
+    requires { ⌜ (i < 64) × (k < 23) ⌝ }
+    ensures { λ r. ⌜ r ≡ placeOf i k ⌝ }
+{
+    if k < 7 {
+        return FIRST_SCALAR + 64 * k + i;
+    }
+    if k < 15 {
+        return FIRST_DECLARER + 8 * i + (k - 7);
+    }
+    FIRST_FIGURE + 8 * i + (k - 15)
+}
+
+// The words of group i.
+fn gathered(register: &[u32], i: usize) -> [u64; 23]
+    requires { ⌜ (length (now register) ≡ 2000) × (i < 64) ⌝ }
+    ensures { λ r. ⌜ r ≡ recordAt (now (register .entry)) i ⌝ }
+{
+    let mut r = [0u64; 23];
+    let mut k: usize = 0;
+    while k < RECORD {
+        let p = place(i, k);
+        r[k] = wide(register[p]);
+        k += 1;
+    }
+    r
+}
+
+// The words of group i replaced.
+fn scatter(register: &mut [u32], i: usize, r: &[u64; 23])
+    requires { ⌜ (length (now register) ≡ 2000) × (i < 64) ⌝ }
+    ensures { λ _. ⌜ now (register .exit) ≡ putWords (now (register .entry)) i (now (r .entry)) 23 ⌝ }
+{
+    let mut k: usize = 0;
+    while k < RECORD {
+        let p = place(i, k);
+        register[p] = low(r[k]);
+        k += 1;
+    }
+}
+
 // Group i of a register; where there is none, a group of zeros.
-pub fn group_at(register: &[u64], i: usize) -> Group
+pub fn group_at(register: &[u32], i: usize) -> Group
     ensures { λ r. ⌜ r ≡ groupAt (now (register .entry)) i ⌝ }
 {
     if 64 <= i {
@@ -128,12 +174,38 @@ pub fn group_at(register: &[u64], i: usize) -> Group
     if register.len() != REGISTER {
         return no_group();
     }
-    let b = FIRST_GROUP + STRIDE * i;
-    group_of(&register[b..b + STRIDE])
+    let r = gathered(register, i);
+    group_of(&r)
+}
+
+// Its quota alone: four words of its record.
+pub fn quota_at(register: &[u32], i: usize) -> Quota
+    ensures { λ r. ⌜ r ≡ (groupAt (now (register .entry)) i) .quota ⌝ }
+{
+    if 64 <= i {
+        let none = no_group();
+        return none.quota;
+    }
+    if register.len() != REGISTER {
+        let none = no_group();
+        return none.quota;
+    }
+    let m = wide(register[FIRST_SCALAR + 128 + i]);
+    let o = wide(register[FIRST_SCALAR + 192 + i]);
+    let h = wide(register[FIRST_SCALAR + 256 + i]);
+    let e = wide(register[FIRST_SCALAR + 320 + i]);
+    let maximum = limit_of(m);
+    let own = limit_of(o);
+    let emergency = emergency_of(h, e);
+    Quota {
+        maximum: maximum,
+        own: own,
+        emergency: emergency,
+    }
 }
 
 // Group i of a register replaced; where there is none, nothing.
-pub fn put_group(register: &mut [u64], i: usize, group: Group)
+pub fn put_group(register: &mut [u32], i: usize, group: Group)
     ensures { λ _. ⌜ now (register .exit) ≡ putGroup (now (register .entry)) i group ⌝ }
 {
     if 64 <= i {
@@ -143,18 +215,18 @@ pub fn put_group(register: &mut [u64], i: usize, group: Group)
         return;
     }
     let words = words_of(group);
-    store(register, FIRST_GROUP + STRIDE * i, &words);
+    scatter(register, i, &words);
 }
 
 // Groups enrolled; 0 in a memory without a header.
-pub fn group_count(register: &[u64]) -> u64
+pub fn group_count(register: &[u32]) -> u64
     ensures { λ r. ⌜ r ≡ groupCount (now (register .entry)) ⌝ }
 {
-    word(register, GROUPS)
+    word32(register, GROUPS)
 }
 
 // One more group, in the next place; nothing where there is none.
-pub fn add_group(register: &mut [u64], group: Group)
+pub fn add_group(register: &mut [u32], group: Group)
     ensures { λ _. ⌜ now (register .exit) ≡ addGroup (now (register .entry)) group ⌝ }
 {
     if register.len() != REGISTER {
@@ -169,7 +241,7 @@ pub fn add_group(register: &mut [u64], group: Group)
 }
 
 // Group i has the code and the class.
-fn is_group(register: &[u64], code: u64, class: u64, i: usize) -> bool
+fn is_group(register: &[u32], code: u64, class: u64, i: usize) -> bool
     ensures { λ r. ⌜ r ≡ isGroup (now (register .entry)) code class i ⌝ }
 {
     let group = group_at(register, i);
@@ -177,7 +249,7 @@ fn is_group(register: &[u64], code: u64, class: u64, i: usize) -> bool
 }
 
 // None of the first n groups has the code and the class.
-fn none_of(register: &[u64], code: u64, class: u64, n: usize) -> bool
+fn none_of(register: &[u32], code: u64, class: u64, n: usize) -> bool
     ensures { λ r. ⌜ r ≡ allBelow n (λ i. not (isGroup (now (register .entry)) code class i)) ⌝ }
 {
     let mut ok = true;
@@ -190,9 +262,9 @@ fn none_of(register: &[u64], code: u64, class: u64, n: usize) -> bool
 }
 
 // A group of that code and class is enrolled; of more than 64 the first 64 are looked at.
-pub fn is_taken(register: &[u64], code: u64, class: u64) -> bool
+pub fn is_taken(register: &[u32], code: u64, class: u64) -> bool
     ensures { λ r. ⌜ r ≡ isTaken (now (register .entry)) code class ⌝ }
 {
-    let n = smaller(word(register, GROUPS), 64);
+    let n = smaller(word32(register, GROUPS), 64);
     !none_of(register, code, class, n as usize)
 }

@@ -8,9 +8,11 @@ use borrow.Author.Tests.{not-true, not-false}
 use Rattle.rules.specs.Calls.{accepted, refused}
 use Rattle.rules.specs.Refusals.{UNSOUND, unlessRefused}
 use Rattle.rules.specs.declared.calls.Answer.{Answer}
-use Rattle.quota.specs.Calls.{closeRefusal, closeAfter}
+use Rattle.quota.specs.Asks.{groupsEnrolled}
+use Rattle.quota.specs.Calls.{enrolRefusal, enrolAnswer, enrolAfter, closeRefusal, closeAfter}
+use Rattle.book.specs.Layout.{noMoney, putMoney}
 use Rattle.orders.specs.Calls.{closedBook}
-use Rattle.claim.specs.Step.{Memory, Stepped, memory, bookSound, onRegister, closing, closingSound}
+use Rattle.claim.specs.Step.{Memory, Stepped, memory, bookSound, onRegister, enrolling, closing, closingSound}
 
 module _ (rs bs ps : List ℕ) (ok : Bool) (e : ok ≡ bookSound rs bs ps) where
   -- a call on the register alone
@@ -25,6 +27,38 @@ module _ (rs bs ps : List ℕ) (ok : Bool) (e : ok ≡ bookSound rs bs ps) where
   on-register-called answer after r xs n p q =
       let f : bookSound rs bs ps ≡ true = sym e ∙ not-false ok n in
       rw f (p, ap (λ (z : List ℕ). memory z bs ps) q)
+
+  -- call 1
+  pub enrol-unsound : (code class : ℕ) (r : Answer) → not ok ≡ true → r ≡ refused UNSOUND
+      → (r ≡ (enrolling (memory rs bs ps) code class) .answer) × (memory rs bs ps ≡ (enrolling (memory rs bs ps) code class) .memory)
+  enrol-unsound code class r n p =
+      let f : bookSound rs bs ps ≡ false = sym e ∙ not-true ok n in
+      rw f (p, refl)
+
+  pub enrol-refused : (code class : ℕ) (r : Answer) (xs : List ℕ) → not ok ≡ false → r ≡ enrolAnswer rs code class → (r .refusal ≡ 0 → ⊥) → xs ≡ enrolAfter rs code class
+      → (r ≡ (enrolling (memory rs bs ps) code class) .answer) × (memory xs bs ps ≡ (enrolling (memory rs bs ps) code class) .memory)
+  unfolding enrolAnswer
+  enrol-refused code class r xs n p h q =
+      let f : bookSound rs bs ps ≡ true = sym e ∙ not-false ok n in
+      rw f (p, ap (λ (z : List ℕ). memory z bs ps) q ∙ ap (λ (z : List ℕ). memory (enrolAfter rs code class) z ps) (stays (enrolRefusal rs code class) refl))
+    where
+      stays : (z : ℕ) → enrolRefusal rs code class ≡ z → bs ≡ unlessRefused z (putMoney bs (groupsEnrolled rs) noMoney) bs
+      stays zero x = absurd (h (ap (λ (a : Answer). a .refusal) p ∙ rw x))
+      stays (suc z) x = refl
+
+  pub enrol-accepted : (code class : ℕ) (r : Answer) (xs ys : List ℕ) (g : ℕ) → not ok ≡ false → r ≡ enrolAnswer rs code class → r .refusal ≡ 0 → xs ≡ enrolAfter rs code class
+      → g ≡ groupsEnrolled rs → ys ≡ putMoney bs g noMoney
+      → (r ≡ (enrolling (memory rs bs ps) code class) .answer) × (memory xs ys ps ≡ (enrolling (memory rs bs ps) code class) .memory)
+  unfolding enrolAnswer
+  enrol-accepted code class r xs ys g n p h q k y =
+      let f : bookSound rs bs ps ≡ true = sym e ∙ not-false ok n in
+      rw f (p, ap (λ (z : List ℕ). memory z ys ps) q ∙ ap (λ (z : List ℕ). memory (enrolAfter rs code class) z ps) (y ∙ ap (λ z. putMoney bs z noMoney) k ∙ put (enrolRefusal rs code class) refl))
+    where
+      put : (z : ℕ) → enrolRefusal rs code class ≡ z → putMoney bs (groupsEnrolled rs) noMoney ≡ unlessRefused z (putMoney bs (groupsEnrolled rs) noMoney) bs
+      put zero x = refl
+      put (suc z) x =
+          let w : suc z ≡ 0 = (rw x at (sym (ap (λ (a : Answer). a .refusal) p))) ∙ h in
+          absurd (omega arith)
 
   -- the close
   pub close-unsound : (r : Answer) → not ok ≡ true → r ≡ refused UNSOUND

@@ -1,11 +1,12 @@
 // Calls 1 to 7 and the close over all of a gate's memory: 1 where a figure of the book is out of its range, or N is another than at opening.
 // The register's own figures are checked by the quota layer's call, so that nothing is checked twice.
 ghost use mathlib.Core.Path.{_≡_};
-ghost use Rattle.claim.specs.Step.{bookSound, memory, onRegister, closingSound};
+ghost use Rattle.claim.specs.Step.{bookSound, memory, onRegister, enrolling, closingSound};
 ghost use Rattle.rules.specs.Refusals.{answered};
-ghost use Rattle.quota.specs.Calls.{enrolAnswer, enrolAfter, attachRefusal, attachAfter, detachRefusal, detachAfter, regularRefusal, regularAfter, raiseRefusal, raiseAfter, withdrawRefusal, withdrawAfter, ownQuotaRefusal, ownQuotaAfter};
+ghost use Rattle.quota.specs.Calls.{attachRefusal, attachAfter, detachRefusal, detachAfter, regularRefusal, regularAfter, raiseRefusal, raiseAfter, withdrawRefusal, withdrawAfter, ownQuotaRefusal, ownQuotaAfter};
 use book::check::book_ok;
 use bookkeeping::close_orders;
+use bookmoney::clear_money;
 use closing::close_quotas;
 use quota::asks::groups_enrolled;
 use rules::calls::Answer;
@@ -15,32 +16,38 @@ use rules::money::Millions;
 use rules::refusals::UNSOUND;
 
 // The book is sound beside the register, and N places are lent.
-pub fn book_sound(register: &[u64], book: &[u64], places: &[u64]) -> bool
+pub fn book_sound(register: &[u32], book: &[u64], places: &[u64]) -> bool
     ensures { λ r. ⌜ r ≡ bookSound (now (register .entry)) (now (book .entry)) (now (places .entry)) ⌝ }
 {
     book_ok(book, places, groups_enrolled(register))
 }
 
-// Call 1.
+// Call 1. The money of the group enrolled is written too: none.
 pub fn guarded_enrol(
-    register: &mut [u64],
-    book: &[u64],
+    register: &mut [u32],
+    book: &mut [u64],
     places: &[u64],
     code: u64,
     class: u64,
 ) -> Answer
-    ensures { λ r. ⌜ (r ≡ (onRegister (memory (now (register .entry)) (now (book .entry)) (now (places .entry))) (enrolAnswer (now (register .entry)) code class) (enrolAfter (now (register .entry)) code class)) .answer)
-        × ((memory (now (register .exit)) (now (book .entry)) (now (places .entry))) ≡ (onRegister (memory (now (register .entry)) (now (book .entry)) (now (places .entry))) (enrolAnswer (now (register .entry)) code class) (enrolAfter (now (register .entry)) code class)) .memory) ⌝ }
+    ensures { λ r. ⌜ (r ≡ (enrolling (memory (now (register .entry)) (now (book .entry)) (now (places .entry))) code class) .answer)
+        × (memory (now (register .exit)) (now (book .exit)) (now (places .entry)) ≡ (enrolling (memory (now (register .entry)) (now (book .entry)) (now (places .entry))) code class) .memory) ⌝ }
 {
     if !book_sound(register, book, places) {
         return refused_by(UNSOUND);
     }
-    enrolling::enrol(register, code, class)
+    let group = groups_enrolled(register);
+    let answer = enrolling::enrol(register, code, class);
+    if answer.refusal != 0 {
+        return answer;
+    }
+    clear_money(book, group);
+    answer
 }
 
 // Call 2.
 pub fn guarded_attach(
-    register: &mut [u64],
+    register: &mut [u32],
     book: &[u64],
     places: &[u64],
     unit: u64,
@@ -56,7 +63,7 @@ pub fn guarded_attach(
 }
 
 // Call 3.
-pub fn guarded_detach(register: &mut [u64], book: &[u64], places: &[u64], unit: u64) -> Answer
+pub fn guarded_detach(register: &mut [u32], book: &[u64], places: &[u64], unit: u64) -> Answer
     ensures { λ r. ⌜ (r ≡ (onRegister (memory (now (register .entry)) (now (book .entry)) (now (places .entry))) (answered (detachRefusal (now (register .entry)) unit)) (detachAfter (now (register .entry)) unit)) .answer)
         × ((memory (now (register .exit)) (now (book .entry)) (now (places .entry))) ≡ (onRegister (memory (now (register .entry)) (now (book .entry)) (now (places .entry))) (answered (detachRefusal (now (register .entry)) unit)) (detachAfter (now (register .entry)) unit)) .memory) ⌝ }
 {
@@ -68,7 +75,7 @@ pub fn guarded_detach(register: &mut [u64], book: &[u64], places: &[u64], unit: 
 
 // Call 4.
 pub fn guarded_regular(
-    register: &mut [u64],
+    register: &mut [u32],
     book: &[u64],
     places: &[u64],
     declarer: u64,
@@ -87,7 +94,7 @@ pub fn guarded_regular(
 
 // Call 5.
 pub fn guarded_raise(
-    register: &mut [u64],
+    register: &mut [u32],
     book: &[u64],
     places: &[u64],
     declarer: u64,
@@ -106,7 +113,7 @@ pub fn guarded_raise(
 
 // Call 6.
 pub fn guarded_withdraw(
-    register: &mut [u64],
+    register: &mut [u32],
     book: &[u64],
     places: &[u64],
     declarer: u64,
@@ -123,7 +130,7 @@ pub fn guarded_withdraw(
 
 // Call 7.
 pub fn guarded_own_quota(
-    register: &mut [u64],
+    register: &mut [u32],
     book: &[u64],
     places: &[u64],
     group: u64,
@@ -139,7 +146,7 @@ pub fn guarded_own_quota(
 }
 
 // Call 11. Close: quotas, then orders; no place is written.
-pub fn guarded_close(register: &mut [u64], book: &mut [u64], places: &[u64]) -> Answer
+pub fn guarded_close(register: &mut [u32], book: &mut [u64], places: &[u64]) -> Answer
     ensures { λ r. ⌜ (r ≡ (closingSound (memory (now (register .entry)) (now (book .entry)) (now (places .entry)))) .answer)
         × (memory (now (register .exit)) (now (book .exit)) (now (places .entry)) ≡ (closingSound (memory (now (register .entry)) (now (book .entry)) (now (places .entry)))) .memory) ⌝ }
 {

@@ -4,14 +4,14 @@ use mathlib.Core.Path.{_≡_}
 use mathlib.Core.Bool.{true}
 use mathlib.Core.Logic.{_≢_}
 use Rattle.rules.specs.Orders.{Rule}
-use Rattle.rules.specs.Laws.{Applies, rising, smallest, given, never-one, enrol-rises, attach-rises, detach-rises, regular-rises, raise-rises, withdraw-rises, own-quota-rises, order-rises, fill-rises, cancel-rises, close-rises}
+use Rattle.rules.specs.Laws.{Applies, rising, rank, smallest, given, never-one, enrol-rises, attach-rises, detach-rises, regular-rises, raise-rises, withdraw-rises, own-quota-rises, order-rises, fill-rises, cancel-rises, close-rises}
 use Rattle.rules.specs.declared.calls.Call.{Call}
 use Rattle.rules.specs.declared.calls.Call.the-variants.{Enrol, Attach, Detach, Regular, Raise, Withdraw, OwnQuota, Order, Fill, Cancel, Close}
 use Rattle.history.specs.Past.{History}
 use Rattle.history.specs.Answers.{isAttached, enrolReads, attachReads, groupReads, figureReads, orderReads, placeReads, refusals, refusalOf}
 
 module _ (N : ℕ) (rule : Rule) (h : History) where
-  rises : (c : Call) → rising 1 (refusals N rule h c) ≡ true
+  pub rises : (c : Call) → rising 1 (refusals N rule h c) ≡ true
   unfolding refusals
   rises (Enrol code class) = enrol-rises code class (enrolReads h code class)
   rises (Attach unit group) = attach-rises unit group (attachReads h unit group)
@@ -26,11 +26,11 @@ module _ (N : ℕ) (rule : Rule) (h : History) where
   rises Close = close-rises
 
   -- "Of several that apply the smallest is returned."
-  pub smallest-given : (c : Call) (n : ℕ) → Applies n (refusals N rule h c) → refusalOf N rule h c ≤ n
+  pub smallest-given : (c : Call) (n : ℕ) → Applies n (refusals N rule h c) → rank (refusalOf N rule h c) ≤ rank n
   smallest-given c n a = smallest 1 n (refusals N rule h c) (rises c) a
 
   -- "Each is returned whenever its condition holds and no smaller one does."
-  pub each-given : (c : Call) (n : ℕ) → Applies n (refusals N rule h c) → ((k : ℕ) → k < n → Applies k (refusals N rule h c) → ⊥) → refusalOf N rule h c ≡ n
+  pub each-given : (c : Call) (n : ℕ) → Applies n (refusals N rule h c) → ((k : ℕ) → rank k < rank n → Applies k (refusals N rule h c) → ⊥) → refusalOf N rule h c ≡ n
   each-given c n a none = given 1 n (refusals N rule h c) (rises c) a none
 
   -- "1 left aside"

@@ -1,4 +1,4 @@
--- Article 16's sum over a list of calls is open + bought − sold, for every group after every list: `article-16`, at the end.
+-- Article 16's sum over a list of calls is open + bought − sold, for every part of the orders after every list: `article-16`, at the end.
 -- Each call moves money between the parts of the formula as it moves it between open, bought and sold. Assumes nothing.
 use Prim.Native.Nat.{ℕ, zero, suc, _+_, _*_, _-_, _≤_, _<_}
 use mathlib.Core.Path.{_≡_, refl, sym, ap, _∙_}
@@ -24,12 +24,12 @@ use Rattle.rules.specs.declared.calls.Call.{Call}
 use Rattle.rules.specs.declared.calls.Call.the-variants.{Enrol, Attach, Detach, Regular, Raise, Withdraw, OwnQuota, Order, Fill, Cancel, Close}
 use Rattle.rules.specs.Refusals.{unlessRefused}
 use Rattle.rules.specs.Sums.{when, when-add, when-zero, total, total-append, total-set}
-use Rattle.history.specs.Past.{Filled, Ordered, History, atOpening, noOrder, orderAt, filledMoney, openIn, boughtIn, soldIn, moneyOf, netIn}
+use Rattle.history.specs.Past.{Filled, Ordered, History, atOpening, noOrder, orderAt, filledMoney, openIn, boughtIn, soldIn, moneyIn, Part, belongs}
 use Rattle.history.specs.Answers.{groupOf, refusals, refusalOf, orderReads, placeReads}
 use Rattle.history.specs.Runs.{ordered, filled, cancelled, accept, next, after}
 use Rattle.history.specs.Article16.{Parts, nothing, counted, net16, parts}
 
-sub-same : (a b k : ℕ) → subℕ (a + k) (b + k) ≡ subℕ a b
+pub sub-same : (a b k : ℕ) → subℕ (a + k) (b + k) ≡ subℕ a b
 sub-same a b k = go (ltb a b) refl
   where
     go : (t : Bool) → ltb a b ≡ t → subℕ (a + k) (b + k) ≡ cond t (negsuc (b - suc a)) (pos (a - b))
@@ -53,31 +53,31 @@ split price p n q h k =
 Priced : List Ordered → Type 0
 Priced l = (i : ℕ) → priceRule ((getD l i noOrder) .kind) ((getD l i noOrder) .price) ≡ true
 
-module _ (g : ℕ) (o : Ordered) where
+module _ (w : Part) (o : Ordered) where
   filled-more : (p : Mils) (q : ℕ) → filledMoney (filled p q o) ≡ filledMoney o + p .0 * q
   unfolding filledMoney
   filled-more p q = total-append (λ f. (amount (f .price) (f .quantity)) .0) (o .fills) (record { price = p; quantity = q })
 
   -- a fill: open and bought before are open, bought and improved after; sold grows by the fill
-  fill-one : (p : Mils) (q : ℕ) → q ≤ o .«open» → priceRule (o .kind) (o .price) ≡ true → worseFill (o .kind) (o .price) p ≡ false
-      → (openIn g (filled p q o) + boughtIn g (filled p q o) + when (eqb (o .group) g) (when (isBuy (o .kind)) ((o .price .0 - p .0) * q)) ≡ openIn g o + boughtIn g o)
-      × (soldIn g (filled p q o) ≡ soldIn g o + when (eqb (o .group) g) (when (not (isBuy (o .kind))) (p .0 * q)))
+  pub fill-one : (p : Mils) (q : ℕ) → q ≤ o .«open» → priceRule (o .kind) (o .price) ≡ true → worseFill (o .kind) (o .price) p ≡ false
+      → (openIn w (filled p q o) + boughtIn w (filled p q o) + when (belongs w o) (when (isBuy (o .kind)) ((o .price .0 - p .0) * q)) ≡ openIn w o + boughtIn w o)
+      × (soldIn w (filled p q o) ≡ soldIn w o + when (belongs w o) (when (not (isBuy (o .kind))) (p .0 * q)))
   unfolding openIn boughtIn soldIn when
-  fill-one p q h r w = rw (filled-more p q) (go (eqb (o .group) g) (isBuy (o .kind)) refl)
+  fill-one p q h r d = rw (filled-more p q) (go (belongs w o) (isBuy (o .kind)) refl)
     where
       go : (s b : Bool) → isBuy (o .kind) ≡ b
           → (when s (when b (o .price .0 * (o .«open» - q))) + when s (when b (filledMoney o + p .0 * q)) + when s (when b ((o .price .0 - p .0) * q)) ≡ when s (when b (o .price .0 * o .«open»)) + when s (when b (filledMoney o)))
           × (when s (when (not b) (filledMoney o + p .0 * q)) ≡ when s (when (not b) (filledMoney o)) + when s (when (not b) (p .0 * q)))
-      go true true e = (omega (arith, split (o .price .0) (p .0) (o .«open») q h (never-dearer (o .kind) (o .price) p e r w)), refl)
+      go true true e = (omega (arith, split (o .price .0) (p .0) (o .«open») q h (never-dearer (o .kind) (o .price) p e r d)), refl)
       go true false e = (refl, refl)
       go false b e = (refl, refl)
 
   -- a cancel: open before is open and cancelled after
-  cancel-one : (openIn g (cancelled o) + when (eqb (o .group) g) (when (isBuy (o .kind)) (o .price .0 * o .«open»)) ≡ openIn g o)
-      × (boughtIn g (cancelled o) ≡ boughtIn g o)
-      × (soldIn g (cancelled o) ≡ soldIn g o)
+  pub cancel-one : (openIn w (cancelled o) + when (belongs w o) (when (isBuy (o .kind)) (o .price .0 * o .«open»)) ≡ openIn w o)
+      × (boughtIn w (cancelled o) ≡ boughtIn w o)
+      × (soldIn w (cancelled o) ≡ soldIn w o)
   unfolding openIn boughtIn soldIn filledMoney when
-  cancel-one = (go (eqb (o .group) g) (isBuy (o .kind)), refl, refl)
+  cancel-one = (go (belongs w o) (isBuy (o .kind)), refl, refl)
     where
       go : (s b : Bool) → when s (when b (o .price .0 * 0)) + when s (when b (o .price .0 * o .«open»)) ≡ when s (when b (o .price .0 * o .«open»))
       go true true = omega arith
@@ -85,9 +85,9 @@ module _ (g : ℕ) (o : Ordered) where
       go false b = refl
 
 -- the parts agree with the orders
-record Tally (g : ℕ) (l : List Ordered) (s : Parts) : Type 0 where
-  pub plus : s .submitted ≡ total (openIn g) l + total (boughtIn g) l + s .cancelled + s .improved
-  pub minus : s .sold ≡ total (soldIn g) l
+record Tally (w : Part) (l : List Ordered) (s : Parts) : Type 0 where
+  pub plus : s .submitted ≡ total (openIn w) l + total (boughtIn w) l + s .cancelled + s .improved
+  pub minus : s .sold ≡ total (soldIn w) l
   pub priced : Priced l
 
 priced-append : (l : List Ordered) (o : Ordered) → Priced l → priceRule (o .kind) (o .price) ≡ true → Priced (l ++ (o ∷ []))
@@ -105,65 +105,65 @@ priced-set (x ∷ l) zero o h p (suc i) = h (suc i)
 priced-set (x ∷ l) (suc k) o h p zero = h 0
 priced-set (x ∷ l) (suc k) o h p (suc i) = priced-set l k o (λ j. h (suc j)) p i
 
-module _ (N : ℕ) (rule : Rule) (g : ℕ) (h : History) (s : Parts) (t : Tally g (h .orders) s) where
-  tally-order : (u k : ℕ) (p : Mils) (q : ℕ) → refusalOf N rule h (Order u k p q) ≡ 0 → Tally g ((accept h (Order u k p q)) .orders) (counted g h s (Order u k p q))
+module _ (N : ℕ) (rule : Rule) (w : Part) (h : History) (s : Parts) (t : Tally w (h .orders) s) where
+  tally-order : (u k : ℕ) (p : Mils) (q : ℕ) → refusalOf N rule h (Order u k p q) ≡ 0 → Tally w ((accept h (Order u k p q)) .orders) (counted w h s (Order u k p q))
   unfolding refusals orderRules accept counted openIn boughtIn soldIn filledMoney total Priced
   tally-order u k p q e =
       let o : Ordered = ordered u k p q (groupOf h u) in
       let c = clear 1 (orderRules rule u k p q (orderReads N h u)) (order-rises rule u k p q (orderReads N h u)) e in
       let f = both (isUnit u) (isKind k && (priceRule k p && isQuantity q)) (not-false (inRange (Order u k p q)) (c .0)) in
       let r = both (priceRule k p) (isQuantity q) (both (isKind k) (priceRule k p && isQuantity q) (f .1) .1) in
-      let none-bought : boughtIn g o ≡ 0 = ap (when (eqb (groupOf h u) g)) (when-zero (isBuy k)) ∙ when-zero (eqb (groupOf h u) g) in
-      let none-sold : soldIn g o ≡ 0 = ap (when (eqb (groupOf h u) g)) (when-zero (not (isBuy k))) ∙ when-zero (eqb (groupOf h u) g) in
-      let a = total-append (openIn g) (h .orders) o in
-      let b = total-append (boughtIn g) (h .orders) o in
-      let d = total-append (soldIn g) (h .orders) o in
+      let none-bought : boughtIn w o ≡ 0 = ap (when (w u (groupOf h u))) (when-zero (isBuy k)) ∙ when-zero (w u (groupOf h u)) in
+      let none-sold : soldIn w o ≡ 0 = ap (when (w u (groupOf h u))) (when-zero (not (isBuy k))) ∙ when-zero (w u (groupOf h u)) in
+      let a = total-append (openIn w) (h .orders) o in
+      let b = total-append (boughtIn w) (h .orders) o in
+      let d = total-append (soldIn w) (h .orders) o in
       record {
         plus = omega (arith, t .plus, a, b, none-bought);
         minus = omega (arith, t .minus, d, none-sold);
         priced = priced-append (h .orders) o (t .priced) (r .0);
       }
 
-  tally-fill : (k : ℕ) (p : Mils) (q : ℕ) → refusalOf N rule h (Fill k p q) ≡ 0 → Tally g ((accept h (Fill k p q)) .orders) (counted g h s (Fill k p q))
+  tally-fill : (k : ℕ) (p : Mils) (q : ℕ) → refusalOf N rule h (Fill k p q) ≡ 0 → Tally w ((accept h (Fill k p q)) .orders) (counted w h s (Fill k p q))
   unfolding refusals fillRules accept counted Priced
   tally-fill k p q e =
       let o : Ordered = orderAt h k in
       let c = clear 1 (fillRules k p q (placeReads h k)) (fill-rises k p q (placeReads h k)) e in
       let i = within-true 1 (length (h .orders)) k (not-false (within 1 (length (h .orders)) k) (c .1 .0)) in
       let l : k - 1 < length (h .orders) = omega arith in
-      let f = fill-one g o p q (ltb-false (o .«open») q (c .1 .1 .0)) (t .priced (k - 1)) (c .1 .1 .1 .0) in
-      let a = total-set (openIn g) (h .orders) (k - 1) (filled p q o) noOrder l in
-      let b = total-set (boughtIn g) (h .orders) (k - 1) (filled p q o) noOrder l in
-      let d = total-set (soldIn g) (h .orders) (k - 1) (filled p q o) noOrder l in
+      let f = fill-one w o p q (ltb-false (o .«open») q (c .1 .1 .0)) (t .priced (k - 1)) (c .1 .1 .1 .0) in
+      let a = total-set (openIn w) (h .orders) (k - 1) (filled p q o) noOrder l in
+      let b = total-set (boughtIn w) (h .orders) (k - 1) (filled p q o) noOrder l in
+      let d = total-set (soldIn w) (h .orders) (k - 1) (filled p q o) noOrder l in
       record {
         plus = omega (arith, t .plus, a, b, f .0);
         minus = omega (arith, t .minus, d, f .1);
         priced = priced-set (h .orders) (k - 1) (filled p q o) (t .priced) (t .priced (k - 1));
       }
 
-  tally-cancel : (k : ℕ) → refusalOf N rule h (Cancel k) ≡ 0 → Tally g ((accept h (Cancel k)) .orders) (counted g h s (Cancel k))
+  tally-cancel : (k : ℕ) → refusalOf N rule h (Cancel k) ≡ 0 → Tally w ((accept h (Cancel k)) .orders) (counted w h s (Cancel k))
   unfolding refusals cancelRules accept counted Priced
   tally-cancel k e =
       let o : Ordered = orderAt h k in
       let c = clear 1 (cancelRules k (placeReads h k)) (cancel-rises k (placeReads h k)) e in
       let i = within-true 1 (length (h .orders)) k (not-false (within 1 (length (h .orders)) k) (c .1 .0)) in
       let l : k - 1 < length (h .orders) = omega arith in
-      let f = cancel-one g o in
-      let a = total-set (openIn g) (h .orders) (k - 1) (cancelled o) noOrder l in
-      let b = total-set (boughtIn g) (h .orders) (k - 1) (cancelled o) noOrder l in
-      let d = total-set (soldIn g) (h .orders) (k - 1) (cancelled o) noOrder l in
+      let f = cancel-one w o in
+      let a = total-set (openIn w) (h .orders) (k - 1) (cancelled o) noOrder l in
+      let b = total-set (boughtIn w) (h .orders) (k - 1) (cancelled o) noOrder l in
+      let d = total-set (soldIn w) (h .orders) (k - 1) (cancelled o) noOrder l in
       record {
         plus = omega (arith, t .plus, a, b, f .0, f .1);
         minus = omega (arith, t .minus, d, f .2);
         priced = priced-set (h .orders) (k - 1) (cancelled o) (t .priced) (t .priced (k - 1));
       }
 
-tally-none : (g : ℕ) → Tally g [] nothing
+tally-none : (w : Part) → Tally w [] nothing
 unfolding total Priced priceRule
-tally-none g = record { plus = refl; minus = refl; priced = λ i. refl }
+tally-none w = record { plus = refl; minus = refl; priced = λ i. refl }
 
-module _ (N : ℕ) (rule : Rule) (g : ℕ) where
-  tally-accepted : (h : History) (s : Parts) → Tally g (h .orders) s → (c : Call) → refusalOf N rule h c ≡ 0 → Tally g ((accept h c) .orders) (counted g h s c)
+module _ (N : ℕ) (rule : Rule) (w : Part) where
+  tally-accepted : (h : History) (s : Parts) → Tally w (h .orders) s → (c : Call) → refusalOf N rule h c ≡ 0 → Tally w ((accept h c) .orders) (counted w h s c)
   unfolding accept counted
   tally-accepted h s t (Enrol code class) e = t
   tally-accepted h s t (Attach unit group) e = t
@@ -172,34 +172,34 @@ module _ (N : ℕ) (rule : Rule) (g : ℕ) where
   tally-accepted h s t (Raise declarer group quota flag) e = t
   tally-accepted h s t (Withdraw declarer group) e = t
   tally-accepted h s t (OwnQuota group quota) e = t
-  tally-accepted h s t (Order unit kind price quantity) e = tally-order N rule g h s t unit kind price quantity e
-  tally-accepted h s t (Fill order price quantity) e = tally-fill N rule g h s t order price quantity e
-  tally-accepted h s t (Cancel order) e = tally-cancel N rule g h s t order e
-  tally-accepted h s t Close e = tally-none g
+  tally-accepted h s t (Order unit kind price quantity) e = tally-order N rule w h s t unit kind price quantity e
+  tally-accepted h s t (Fill order price quantity) e = tally-fill N rule w h s t order price quantity e
+  tally-accepted h s t (Cancel order) e = tally-cancel N rule w h s t order e
+  tally-accepted h s t Close e = tally-none w
 
-  tally-next : (h : History) (s : Parts) → Tally g (h .orders) s → (c : Call) → Tally g ((next N rule h c) .orders) (unlessRefused (refusalOf N rule h c) (counted g h s c) s)
+  tally-next : (h : History) (s : Parts) → Tally w (h .orders) s → (c : Call) → Tally w ((next N rule h c) .orders) (unlessRefused (refusalOf N rule h c) (counted w h s c) s)
   unfolding next
   tally-next h s t c = go (refusalOf N rule h c) refl
     where
-      go : (r : ℕ) → refusalOf N rule h c ≡ r → Tally g ((unlessRefused r (accept h c) h) .orders) (unlessRefused r (counted g h s c) s)
+      go : (r : ℕ) → refusalOf N rule h c ≡ r → Tally w ((unlessRefused r (accept h c) h) .orders) (unlessRefused r (counted w h s c) s)
       go zero e = tally-accepted h s t c e
       go (suc r) e = t
 
-  tally-after : (cs : List Call) (h : History) (s : Parts) → Tally g (h .orders) s → Tally g ((after N rule h cs) .orders) (parts N rule g h s cs)
+  tally-after : (cs : List Call) (h : History) (s : Parts) → Tally w (h .orders) s → Tally w ((after N rule h cs) .orders) (parts N rule w h s cs)
   unfolding after parts
   tally-after [] h s t = t
-  tally-after (c ∷ cs) h s t = tally-after cs (next N rule h c) (unlessRefused (refusalOf N rule h c) (counted g h s c) s) (tally-next h s t c)
+  tally-after (c ∷ cs) h s t = tally-after cs (next N rule h c) (unlessRefused (refusalOf N rule h c) (counted w h s c) s) (tally-next h s t c)
 
-  -- Article 16's sum is open + bought − sold, for every group after every list of calls
-  pub article-16 : (cs : List Call) → net16 (parts N rule g atOpening nothing cs) ≡ netIn (after N rule atOpening cs) g
-  unfolding netOf moneyOf
+  -- Article 16's sum is open + bought − sold, for every part of the orders after every list of calls
+  pub article-16 : (cs : List Call) → net16 (parts N rule w atOpening nothing cs) ≡ netOf (moneyIn (after N rule atOpening cs) w)
+  unfolding netOf moneyIn
   article-16 cs =
-      let t = tally-after cs atOpening nothing (tally-none g) in
-      let s : Parts = parts N rule g atOpening nothing cs in
+      let t = tally-after cs atOpening nothing (tally-none w) in
+      let s : Parts = parts N rule w atOpening nothing cs in
       let l : List Ordered = (after N rule atOpening cs) .orders in
       let k : ℕ = s .cancelled + s .improved in
-      let a : s .submitted ≡ total (openIn g) l + total (boughtIn g) l + k = omega (arith, t .plus) in
-      let b : s .sold + s .cancelled + s .improved ≡ total (soldIn g) l + k = omega (arith, t .minus) in
+      let a : s .submitted ≡ total (openIn w) l + total (boughtIn w) l + k = omega (arith, t .plus) in
+      let b : s .sold + s .cancelled + s .improved ≡ total (soldIn w) l + k = omega (arith, t .minus) in
       ap (λ x. subℕ x (s .sold + s .cancelled + s .improved)) a
-      ∙ ap (λ x. subℕ (total (openIn g) l + total (boughtIn g) l + k) x) b
-      ∙ sub-same (total (openIn g) l + total (boughtIn g) l) (total (soldIn g) l) k
+      ∙ ap (λ x. subℕ (total (openIn w) l + total (boughtIn w) l + k) x) b
+      ∙ sub-same (total (openIn w) l + total (boughtIn w) l) (total (soldIn w) l) k

@@ -72,7 +72,7 @@ module _ (N : ℕ) (h : History) (m : Memory) (s : Sim N h m) where
   obeys g l =
       let r = group-sound (m .register) g (s .quota .sound) l in
       let p = s .quota .proper g l in
-      let fits : moneyFits (moneyAt (m .book) g) ≡ true = ap moneyFits (s .order .money g) ∙ money-fits (length (h .groups)) h (s .order .known) orders-few g in
+      let fits : moneyFits (moneyAt (m .book) g) ≡ true = ap moneyFits (s .order .money g) ∙ money-fits (length (h .groups)) h (s .order .known) orders-few (past.inGroup g) in
       let kept : limitsKept ((groupAt (m .register) g) .quota .maximum) (inForce ((groupAt (m .register) g) .quota)) ≡ true =
       limits-kept ((groupAt (m .register) g) .quota .maximum) ((groupAt (m .register) g) .quota .own) (r .maximum) (p .maximum-low) (p .own-within) in
       rw (

@@ -17,7 +17,7 @@ use rules::refusals::SHORT_BUFFER;
 use rules::refusals::UNSOUND;
 
 // Whether none of the rows of groups from to n − 1 has this row's code with its class.
-fn is_fresh(register: &[u64], book: &[u64], row: Row, from: u64, n: u64) -> bool
+fn is_fresh(register: &[u32], book: &[u64], row: Row, from: u64, n: u64) -> bool
     requires { ⌜ (from ≤ n) × (n ≤ 64) ⌝ }
     ensures { λ r. ⌜ r ≡ fresh row (rowsOn (now (register .entry)) (now (book .entry)) from (n - from)) ⌝ }
 {
@@ -34,7 +34,7 @@ fn is_fresh(register: &[u64], book: &[u64], row: Row, from: u64, n: u64) -> bool
 }
 
 // Whether the rows of the first n groups keep their rules, no code with its class repeated.
-fn rows_kept(register: &[u64], book: &[u64], n: u64) -> bool
+fn rows_kept(register: &[u32], book: &[u64], n: u64) -> bool
     requires { ⌜ n ≤ 64 ⌝ }
     ensures { λ r. ⌜ r ≡ rowsKept (rowsOn (now (register .entry)) (now (book .entry)) 0 n) ⌝ }
 {
@@ -54,7 +54,7 @@ fn rows_kept(register: &[u64], book: &[u64], n: u64) -> bool
 }
 
 // 1, 22 or 0.
-fn refusal_of_listing(register: &[u64], book: &[u64], places: &[u64], room: usize) -> u64
+fn refusal_of_listing(register: &[u32], book: &[u64], places: &[u64], room: usize) -> u64
     ensures { λ r. ⌜ r ≡ listRefusal (now (register .entry)) (now (book .entry)) (now (places .entry)) room ⌝ }
 {
     if !host_ok(register, book, places) {
@@ -71,7 +71,7 @@ fn refusal_of_listing(register: &[u64], book: &[u64], places: &[u64], room: usiz
 }
 
 // The rows of the first n groups, one behind the other from the buffer's start.
-fn put_rows(register: &[u64], book: &[u64], n: u64, buffer: &mut [u8])
+fn put_rows(register: &[u32], book: &[u64], n: u64, buffer: &mut [u8])
     requires { ⌜ (108 * n ≤ length (now buffer)) × (rowsKept (rowsOn (now register) (now book) 0 n) ≡ true) ⌝ }
     ensures { λ _. ⌜ now (buffer .exit) ≡ paste (now (buffer .entry)) 0 (listingText (rowsOn (now (register .entry)) (now (book .entry)) 0 n)) (108 * n) ⌝ }
 {
@@ -85,7 +85,7 @@ fn put_rows(register: &[u64], book: &[u64], n: u64, buffer: &mut [u8])
 }
 
 // The gate's listing.
-pub fn write(register: &[u64], book: &[u64], places: &[u64], buffer: &mut [u8]) -> u64
+pub fn write(register: &[u32], book: &[u64], places: &[u64], buffer: &mut [u8]) -> u64
     ensures { λ r. ⌜ (r ≡ listRefusal (now (register .entry)) (now (book .entry)) (now (places .entry)) (length (now (buffer .entry))))
         × (now (buffer .exit) ≡ listed (now (register .entry)) (now (book .entry)) (now (places .entry)) (now (buffer .entry))) ⌝ }
 {

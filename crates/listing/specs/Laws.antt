@@ -15,9 +15,9 @@ use Rattle.rules.specs.Tests.{both}
 use Rattle.rules.specs.Limits.{mostGroups}
 use Rattle.rows.specs.Row.{rowKept}
 use Rattle.rows.specs.declared.Row.{Row}
-use Rattle.listing.specs.Text.{rowText, rowIn, rowGood, listingText, fresh, rowsKept, listingKept, rowsFrom, rowsGood, isListing, rowsIn, stepAt}
+use Rattle.listing.specs.Text.{rowText, rowIn, rowGood, listingText, fresh, rowsKept, listingKept, rowsFrom, rowsGood, isListing, rowsIn, stepAt, stepIn, stepOf, nextAt, numberOf}
 use Rattle.listing.specs.RowLaws.{length-row, row-back, row-good, good-text, good-kept}
-use Rattle.listing.specs.declared.texts.Step.the-variants.{Next, End}
+use Rattle.listing.specs.declared.texts.Step.the-variants.{Next, Broken, End}
 
 pub length-listing : (rs : List Row) → length (listingText rs) ≡ 108 * length rs
 unfolding listingText
@@ -168,3 +168,27 @@ pub written-handed-out : (rs : List Row) (i : ℕ) (d : Row) → listingKept rs 
 written-handed-out rs i d h l =
     let b = listing-read rs h in
     hands-out (listingText rs) i d (b .0) (rw (b .1) l) ∙ ap (λ (xs : List Row). Next (getD xs i d)) (b .1)
+
+-- by a reader, which checks the whole text first: a listing's rows in order, then the end
+pub hands-out-checked : (t : List ℕ) (i : ℕ) (d : Row) → isListing t ≡ true → i < length (rowsIn t) → stepOf t (108 * i) ≡ Next (getD (rowsIn t) i d)
+unfolding stepIn
+hands-out-checked t i d h l = rw h (hands-out t i d h l)
+
+pub ends-checked : (t : List ℕ) (i : ℕ) → isListing t ≡ true → length (rowsIn t) ≤ i → stepOf t (108 * i) ≡ End
+unfolding stepIn
+ends-checked t i h l = rw h (ends t i l)
+
+-- and of any other text nothing, at any place, but the number 21
+pub hands-nothing : (t : List ℕ) (at : ℕ) → isListing t ≡ false → stepOf t at ≡ Broken
+unfolding stepIn
+hands-nothing t at h = rw h
+
+pub nothing-is-21 : (t : List ℕ) (at : ℕ) → isListing t ≡ false → numberOf (stepOf t at) ≡ 21
+nothing-is-21 t at h = rw (hands-nothing t at h)
+
+-- a reader that is at one of a listing's rows moves on to the next place: from 0 it is at 0, 108, 216, ..
+pub moves-on : (t : List ℕ) (i : ℕ) → isListing t ≡ true → i < length (rowsIn t) → nextAt t (108 * i) ≡ 108 * i + 108
+unfolding nextAt rowsIn
+moves-on t i h l =
+    let a : Accepted t = accepted t h in
+    rw (le-leb (108 * i + 108) (length t) (omega (arith, a .whole, length-rows (length t / 108) t, l)))

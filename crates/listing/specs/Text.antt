@@ -16,7 +16,9 @@ use Rattle.columns.specs.Column.{column, optionalText, signedText, part, holds,
 use Rattle.columns.specs.declared.reading.Optional.{Optional}
 use Rattle.rows.specs.Row.{rowKept}
 use Rattle.rows.specs.declared.Row.{Row}
+use denote.Ref.{now}
 use Rattle.listing.specs.declared.lines.Line.{Line}
+use Rattle.listing.specs.declared.reader.ListingReader.{ListingReader}
 use Rattle.listing.specs.declared.texts.Step.{Step}
 use Rattle.listing.specs.declared.texts.Step.the-variants.{Next, Broken, End}
 
@@ -129,3 +131,24 @@ lineStep l = pick (l .good) (Next (l .row)) Broken
 
 unfoldable pub stepAt : List ℕ → ℕ → Step
 stepAt t at = pick (holds (length t) at 108) (lineStep (readLine (part t at 108))) End
+
+-- the same by a reader whose text was refused by that number, or by 0: a refused text hands out no row
+unfoldable pub stepIn : List ℕ → ℕ → ℕ → Step
+stepIn t at refusal = pick (eqb refusal 0) (stepAt t at) Broken
+
+-- what a reader of a text finds at a place: the whole text is checked first
+abbrev pub stepOf : List ℕ → ℕ → Step
+stepOf t at = stepIn t at (refusalOfText t)
+
+-- the place behind the row at a place, and a reader that has moved on to it
+unfoldable pub nextAt : List ℕ → ℕ → ℕ
+nextAt t at = pick (holds (length t) at 108) (at + 108) at
+
+abbrev pub movedOn : ListingReader → ListingReader
+movedOn r = record { text = r .text; at = nextAt (now (r .text)) (r .at); refusal = r .refusal }
+
+-- what a case says: the refusal list's number, 0 for none
+abbrev pub numberOf : Step → ℕ
+numberOf (Next row) = 0
+numberOf Broken = MALFORMED
+numberOf End = 0

@@ -23,18 +23,18 @@ stored-whole ws xs e =
 
 module _ (rs bs ps : List ℕ) where
   -- a proper opening: every slice has its length
-  pub open-known : openRefusal rs bs ps ≡ 0 → (length rs ≡ 1_986) × (length bs ≡ 194)
+  pub open-known : openRefusal rs bs ps ≡ 0 → (length rs ≡ 2_000) × (length bs ≡ 194)
   unfolding openRefusal
-  open-known e = go (eqb (length rs) 1_986 && rest) refl e
+  open-known e = go (eqb (length rs) 2_000 && rest) refl e
     where
       rest : Bool
       rest = eqb (length bs) 194 && (eqb (length ps) (4 * placesLent ps) && isPlaces (placesLent ps))
 
-      go : (t : Bool) → (eqb (length rs) 1_986 && rest) ≡ t → pick t 0 UNSOUND ≡ 0 → (length rs ≡ 1_986) × (length bs ≡ 194)
+      go : (t : Bool) → (eqb (length rs) 2_000 && rest) ≡ t → pick t 0 UNSOUND ≡ 0 → (length rs ≡ 2_000) × (length bs ≡ 194)
       go true q z =
-          let a = both (eqb (length rs) 1_986) rest q in
+          let a = both (eqb (length rs) 2_000) rest q in
           let b = both (eqb (length bs) 194) (eqb (length ps) (4 * placesLent ps) && isPlaces (placesLent ps)) (a .1) in
-          (eqb-true (length rs) 1_986 (a .0), eqb-true (length bs) 194 (b .0))
+          (eqb-true (length rs) 2_000 (a .0), eqb-true (length bs) 194 (b .0))
       go false q z = absurd (omega arith)
 
   pub open-refused : (r : ℕ) → r ≡ openRefusal rs bs ps → (r ≡ 0 → ⊥) → (r ≡ openRefusal rs bs ps) × ((rs ≡ openRegister rs bs ps) × (bs ≡ openBook rs bs ps))
@@ -51,6 +51,6 @@ module _ (rs bs ps : List ℕ) where
   open-done r xs ys e z x y =
       let q : openRefusal rs bs ps ≡ 0 = sym e ∙ z in
       let k = open-known q in
-      let m : length rs ≡ length freshRegister = k .0 ∙ sym (length-replicate {A = ℕ} 1_986 0) in
+      let m : length rs ≡ length freshRegister = k .0 ∙ sym (length-replicate {A = ℕ} 2_000 0) in
       let n : length bs ≡ length (freshBook (placesLent ps)) = k .1 ∙ sym (ap suc (length-replicate {A = ℕ} 193 0)) in
       rw q (refl, (x ∙ stored-whole rs freshRegister m, y ∙ stored-whole bs (freshBook (placesLent ps)) n))

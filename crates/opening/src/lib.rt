@@ -6,9 +6,10 @@ use book::layout::PLACE_WORDS;
 use register::layout::REGISTER;
 use rules::refusals::UNSOUND;
 use words::store;
+use words::store32;
 
 // 0, or 1 where a slice has another length or N, the places lent, is out of its range.
-pub fn refusal_of_opening(register: &[u64], book: &[u64], places: &[u64]) -> u64
+pub fn refusal_of_opening(register: &[u32], book: &[u64], places: &[u64]) -> u64
     ensures { λ r. ⌜ r ≡ openRefusal (now (register .entry)) (now (book .entry)) (now (places .entry)) ⌝ }
 {
     let n = places.len() / PLACE_WORDS;
@@ -19,7 +20,7 @@ pub fn refusal_of_opening(register: &[u64], book: &[u64], places: &[u64]) -> u64
 }
 
 // A fresh gate: nothing enrolled or attached, no order, N as many as the places lent.
-pub fn open(register: &mut [u64], book: &mut [u64], places: &[u64]) -> u64
+pub fn open(register: &mut [u32], book: &mut [u64], places: &[u64]) -> u64
     ensures { λ r. ⌜ (r ≡ openRefusal (now (register .entry)) (now (book .entry)) (now (places .entry)))
         × ((now (register .exit) ≡ openRegister (now (register .entry)) (now (book .entry)) (now (places .entry)))
         × (now (book .exit) ≡ openBook (now (register .entry)) (now (book .entry)) (now (places .entry)))) ⌝ }
@@ -32,6 +33,6 @@ pub fn open(register: &mut [u64], book: &mut [u64], places: &[u64]) -> u64
     let mut fresh = [0u64; 194];
     fresh[0] = n as u64;
     store(book, 0, &fresh);
-    store(register, 0, &[0u64; 1986]);
+    store32(register, 0, &[0u32; 2000]);
     0
 }

@@ -17,7 +17,6 @@ use bookplaces::put_place;
 use kinds::is_buy;
 use orders::booking::Booked;
 use orders::refusals::listed_of_order;
-use quota::asks::group_of_unit;
 use rules::calls::Answer;
 use rules::calls::accepted_as;
 use rules::calls::refused_by;
@@ -44,7 +43,7 @@ fn booked_order(money: Money, kind: u64, price: Mils, quantity: u64) -> Booked
 
 // Call 8. Order: the next number, its own place, and a buy's amount to the open buys.
 pub fn order(
-    register: &[u64],
+    register: &[u32],
     book: &mut [u64],
     places: &mut [u64],
     unit: u64,
@@ -57,10 +56,11 @@ pub fn order(
         × (now (places .exit) ≡ orderPlaces shanghai (now (register .entry)) (now (book .entry)) (now (places .entry)) unit kind price quantity)) ⌝ }
 {
     let listed = listed_of_order(register, book, places, unit, kind, price, quantity);
-    if listed != 0 {
-        return refused_by(listed);
+    let refusal = listed.refusal;
+    if refusal != 0 {
+        return refused_by(refusal);
     }
-    let group = group_of_unit(register, unit);
+    let group = listed.group;
     let booked = booked_order(money_at(book, group), kind, price, quantity);
     if !booked.ok {
         return refused_by(UNSOUND);

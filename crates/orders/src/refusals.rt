@@ -1,7 +1,8 @@
 // Each call's refusal: 1 for the host's memory, the call's list, then 1 for money that would leave 0 to L.
 ghost use mathlib.Core.Path.{_≡_};
 ghost use Rattle.rules.specs.Orders.{shanghai};
-ghost use Rattle.orders.specs.Calls.{orderReads, placeReads, orderListed, fillListed, cancelListed};
+ghost use Rattle.quota.specs.Asks.{groupOfUnit};
+ghost use Rattle.orders.specs.Calls.{readsIn, placeReads, orderListed, fillListed, cancelListed};
 use crate::host::host_ok;
 use crate::host::named_ok;
 use bookmoney::accepted_of;
@@ -11,8 +12,7 @@ use bookplaces::place_at;
 use orderreasons::cancel_refusal;
 use orderreasons::fill_refusal;
 use orderreasons::order_refusal;
-use quota::asks::group_of_unit;
-use quota::asks::is_attached;
+use quota::asks::attachment_of;
 use quota::asks::own_in_force_of;
 use rules::money::Mils;
 use rules::refusals::UNSOUND;
@@ -20,11 +20,9 @@ use rules::refusals::first;
 use rules::trading::OrderReads;
 use rules::trading::PlaceReads;
 
-fn reads_of_order(register: &[u64], book: &[u64], unit: u64) -> OrderReads
-    ensures { λ r. ⌜ r ≡ orderReads (now (register .entry)) (now (book .entry)) unit ⌝ }
+fn reads_of_order(register: &[u32], book: &[u64], attached: bool, group: u64) -> OrderReads
+    ensures { λ r. ⌜ r ≡ readsIn (now (register .entry)) (now (book .entry)) attached group ⌝ }
 {
-    let group = group_of_unit(register, unit);
-    let attached = is_attached(register, unit);
     let own = own_in_force_of(register, group);
     let money = money_at(book, group);
     let full = places_of(book) <= accepted_of(book);
@@ -50,31 +48,39 @@ fn reads_of_place(book: &[u64], places: &[u64], order: u64) -> PlaceReads
     }
 }
 
+// The host's 1 and the list of call 8, and the unit's group, so that the unit is searched for once.
+pub struct Listed {
+    pub refusal: u64,
+    pub group: u64,
+}
+
 // Call 8: the host's 1 and the list.
 pub fn listed_of_order(
-    register: &[u64],
+    register: &[u32],
     book: &[u64],
     places: &[u64],
     unit: u64,
     kind: u64,
     price: Mils,
     quantity: u64,
-) -> u64
-    ensures { λ r. ⌜ r ≡ orderListed shanghai (now (register .entry)) (now (book .entry)) (now (places .entry)) unit kind price quantity ⌝ }
+) -> Listed
+    ensures { λ r. ⌜ (r .refusal ≡ orderListed shanghai (now (register .entry)) (now (book .entry)) (now (places .entry)) unit kind price quantity)
+        × (r .group ≡ groupOfUnit (now (register .entry)) unit) ⌝ }
 {
-    let r = order_refusal(
-        unit,
-        kind,
-        price,
-        quantity,
-        reads_of_order(register, book, unit),
-    );
-    first(!host_ok(register, book, places), UNSOUND, r)
+    let found = attachment_of(register, unit);
+    let group = found.group;
+    let reads = reads_of_order(register, book, found.attached, group);
+    let r = order_refusal(unit, kind, price, quantity, reads);
+    let refusal = first(!host_ok(register, book, places), UNSOUND, r);
+    Listed {
+        refusal: refusal,
+        group: group,
+    }
 }
 
 // Call 9: the host's 1 and the list.
 pub fn listed_of_fill(
-    register: &[u64],
+    register: &[u32],
     book: &[u64],
     places: &[u64],
     order: u64,
@@ -89,7 +95,7 @@ pub fn listed_of_fill(
 }
 
 // Call 10: the host's 1 and the list.
-pub fn listed_of_cancel(register: &[u64], book: &[u64], places: &[u64], order: u64) -> u64
+pub fn listed_of_cancel(register: &[u32], book: &[u64], places: &[u64], order: u64) -> u64
     ensures { λ r. ⌜ r ≡ cancelListed (now (register .entry)) (now (book .entry)) (now (places .entry)) order ⌝ }
 {
     let r = cancel_refusal(order, reads_of_place(book, places, order));

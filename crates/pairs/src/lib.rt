@@ -1,19 +1,50 @@
-// Pairs (key, value) in a memory that the host lends: found by key, put, and taken out with the order kept. Nothing of the paper.
+// Pairs (key, value) in two columns of words that the host lends: a key found, a word taken out of a column with the order kept. Nothing of the paper.
+// Blocks of eight keys are looked at whole, which the compiler does in four instructions, and only a block that has the key is walked.
 ghost use mathlib.Core.Path.{_≡_};
-ghost use Rattle.rules.specs.Keyed.{find, isThere, orElse};
-ghost use Rattle.pairs.specs.Pairs.{pairsOf, placeOf, putPair, removedPair};
+ghost use mathlib.Core.Bool.{not};
+ghost use Prim.Native.Nat.{_+_, _≤_, min};
+ghost use lib.Dec.{eqb};
+ghost use lib.ListN.{length, getD};
+ghost use Rattle.words.specs.Each.{allBelow};
+ghost use Rattle.pairs.specs.Pairs.{placeOf, Lacks, removedWord};
 
-// The index of the first of n pairs that has the key; n where none has it.
-pub fn place_of(ws: &[u64], n: usize, key: u64) -> usize
+// None of the eight words from `from` on is the key. All are looked at.
+fn lacks(ws: &[u32], from: usize, key: u32) -> bool
+    requires { ⌜ from + 8 ≤ length (now ws) ⌝ }
+    ensures { λ r. ⌜ r ≡ allBelow 8 (λ j. not (eqb (getD (now (ws .entry)) (from + j) 0) key)) ⌝ }
+{
+    let mut none = true;
+    let mut j: usize = 0;
+    while j < 8 {
+        none = none & !(ws[from + j] == key);
+        j += 1;
+    }
+    none
+}
+
+// Where the first block of eight begins that has the key, or the words behind the last whole block.
+fn skip(ws: &[u32], most: usize, key: u32) -> usize
+    requires { ⌜ most ≤ length (now ws) ⌝ }
+    ensures { λ r. ⌜ (r ≤ most) × Lacks (now (ws .entry)) r key ⌝ }
+{
+    let mut k: usize = 0;
+    while 8 <= most - k {
+        if !lacks(ws, k, key) {
+            return k;
+        }
+        k += 8;
+    }
+    k
+}
+
+// Word by word, from `from` on.
+fn walk(ws: &[u32], from: usize, most: usize, n: usize, key: u64) -> usize
+    requires { ⌜ (from ≤ most) × (most ≤ n) × (most ≤ length (now ws)) × (min n (length (now ws)) ≤ most) × Lacks (now ws) from key ⌝ }
     ensures { λ r. ⌜ r ≡ placeOf (now (ws .entry)) n key ⌝ }
 {
-    let most = ws.len() / 2;
-    let mut k: usize = 0;
-    while k < n {
-        if most <= k {
-            return n;
-        }
-        if ws[2 * k] == key {
+    let mut k = from;
+    while k < most {
+        if ws[k] as u64 == key {
             return k;
         }
         k += 1;
@@ -21,50 +52,38 @@ pub fn place_of(ws: &[u64], n: usize, key: u64) -> usize
     n
 }
 
-// One of n pairs has the key.
-pub fn is_there(ws: &[u64], n: usize, key: u64) -> bool
-    ensures { λ r. ⌜ r ≡ isThere (find key (pairsOf (now (ws .entry)) n)) ⌝ }
+fn fewer(a: usize, b: usize) -> usize
+    ensures { λ r. ⌜ r ≡ min a b ⌝ }
 {
-    place_of(ws, n, key) < n
+    if a < b { a } else { b }
 }
 
-// The value of the first of n pairs that has the key; 0 where none has it.
-pub fn value_of(ws: &[u64], n: usize, key: u64) -> u64
-    ensures { λ r. ⌜ r ≡ orElse 0 (find key (pairsOf (now (ws .entry)) n)) ⌝ }
+// The index of the first of n words that is the key; n where none is.
+pub fn place_of(ws: &[u32], n: usize, key: u64) -> usize
+    ensures { λ r. ⌜ r ≡ placeOf (now (ws .entry)) n key ⌝ }
 {
-    let place = place_of(ws, n, key);
-    if place < n {
-        return ws[2 * place + 1];
+    let most = fewer(n, ws.len());
+    if 4_294_967_295 < key {
+        return walk(ws, 0, most, n, key);
     }
-    0
+    let from = skip(ws, most, key as u32);
+    walk(ws, from, most, n, key)
 }
 
-// Pair k is (key, value); nothing where it does not fit.
-pub fn put_pair(ws: &mut [u64], k: usize, key: u64, value: u64)
-    ensures { λ _. ⌜ now (ws .exit) ≡ putPair (now (ws .entry)) k key value ⌝ }
-{
-    if ws.len() / 2 <= k {
-        return;
-    }
-    ws[2 * k] = key;
-    ws[2 * k + 1] = value;
-}
-
-// Pair k of n taken out, the later pairs moved down by one; nothing where there is no such pair, or n pairs do not fit.
-pub fn remove_pair(ws: &mut [u64], n: usize, k: usize)
-    ensures { λ _. ⌜ now (ws .exit) ≡ removedPair (now (ws .entry)) n k ⌝ }
+// Word k of n taken out, the later ones moved down by one; nothing where there is no such word, or there are not so many.
+pub fn remove_word(ws: &mut [u32], n: usize, k: usize)
+    ensures { λ _. ⌜ now (ws .exit) ≡ removedWord (now (ws .entry)) n k ⌝ }
 {
     if n <= k {
         return;
     }
-    if ws.len() / 2 < n {
+    if ws.len() < n {
         return;
     }
-    let start = 2 * k;
-    let later = 2 * (n - 1 - k);
+    let later = n - 1 - k;
     let mut j: usize = 0;
     while j < later {
-        ws[start + j] = ws[start + 2 + j];
+        ws[k + j] = ws[k + 1 + j];
         j += 1;
     }
 }

@@ -1,52 +1,67 @@
 // What the order layer may ask of a register. It knows the quota layer by these promises and nothing more.
 ghost use mathlib.Core.Path.{_≡_};
 ghost use Rattle.quota.specs.Asks.{isSound, groupsEnrolled, isEnrolled, isAttached, groupOfUnit, ownInForce};
-use groups::group_at;
 use groups::group_count;
+use groups::quota_at;
 use maxima::own_in_force;
 use rules::quotas::Limit;
 use soundness::register_ok;
+use units::find_unit;
 
 // Every figure of the register is in its range.
-pub fn is_sound(register: &[u64]) -> bool
+pub fn is_sound(register: &[u32]) -> bool
     ensures { λ r. ⌜ r ≡ isSound (now (register .entry)) ⌝ }
 {
     register_ok(register)
 }
 
 // How many groups are enrolled; they bear the numbers from 0 on.
-pub fn groups_enrolled(register: &[u64]) -> u64
+pub fn groups_enrolled(register: &[u32]) -> u64
     ensures { λ r. ⌜ r ≡ groupsEnrolled (now (register .entry)) ⌝ }
 {
     group_count(register)
 }
 
 // The group is enrolled.
-pub fn is_enrolled(register: &[u64], group: u64) -> bool
+pub fn is_enrolled(register: &[u32], group: u64) -> bool
     ensures { λ r. ⌜ r ≡ isEnrolled (now (register .entry)) group ⌝ }
 {
     group < group_count(register)
 }
 
 // The unit is attached.
-pub fn is_attached(register: &[u64], unit: u64) -> bool
+pub fn is_attached(register: &[u32], unit: u64) -> bool
     ensures { λ r. ⌜ r ≡ isAttached (now (register .entry)) unit ⌝ }
 {
     units::is_attached(register, unit)
 }
 
 // The group of an attached unit; 0 where it is not attached.
-pub fn group_of_unit(register: &[u64], unit: u64) -> u64
+pub fn group_of_unit(register: &[u32], unit: u64) -> u64
     ensures { λ r. ⌜ r ≡ groupOfUnit (now (register .entry)) unit ⌝ }
 {
     units::group_of_unit(register, unit)
 }
 
+// Both at once.
+pub struct Attachment {
+    pub attached: bool,
+    pub group: u64,
+}
+
+pub fn attachment_of(register: &[u32], unit: u64) -> Attachment
+    ensures { λ r. ⌜ (r .attached ≡ isAttached (now (register .entry)) unit) × (r .group ≡ groupOfUnit (now (register .entry)) unit) ⌝ }
+{
+    let found = find_unit(register, unit);
+    Attachment {
+        attached: found.attached,
+        group: found.group,
+    }
+}
+
 // A group's own quota in force.
-pub fn own_in_force_of(register: &[u64], group: u64) -> Limit
+pub fn own_in_force_of(register: &[u32], group: u64) -> Limit
     ensures { λ r. ⌜ r ≡ ownInForce (now (register .entry)) group ⌝ }
 {
-    let agreed = group_at(register, group as usize);
-    let quota = agreed.quota;
-    own_in_force(quota)
+    own_in_force(quota_at(register, group as usize))
 }

@@ -26,7 +26,7 @@ use Rattle.quota.specs.Asks.{isSound, groupsEnrolled, groupOfUnit}
 use Rattle.quota.specs.Groups.{freshGroup, declaredGroup, raisedGroup, filedGroup, ownGroup}
 use Rattle.quota.specs.Reads.{enrolReads, attachReads, groupReads, figureReads}
 use Rattle.quota.specs.Calls.{enrolRefusal, enrolAnswer, enrolAfter, attachRefusal, attachAfter, detachRefusal, detachAfter, regularRefusal, regularAfter, raiseRefusal, raiseAfter, withdrawRefusal, withdrawAfter, ownQuotaRefusal, ownQuotaAfter, closeRefusal, closeAfter}
-use Rattle.book.specs.Layout.{acceptedOf, placeAt, putAccepted, putMoney, putPlace, putOpen}
+use Rattle.book.specs.Layout.{acceptedOf, noMoney, placeAt, putAccepted, putMoney, putPlace, putOpen}
 use Rattle.book.specs.Check.{bookOk}
 use Rattle.orders.specs.Host.{hostOk, namedOk}
 use Rattle.orders.specs.Calls.{unlessBroken, orderReads, placeReads, orderBooked, orderRefusal, orderAnswer, orderBook, orderPlaces, fillBooked, fillRefusal, fillBook, fillPlaces, cancelBooked, cancelRefusal, cancelBook, cancelPlaces, closedBook}
@@ -35,7 +35,7 @@ use Rattle.rows.specs.Row.{rowRefusal, rowOf}
 use Rattle.listing.specs.Text.{listingKept}
 use Rattle.lister.specs.Listed.{gateRows, listRefusal}
 use Rattle.router.specs.Handed.{handedRefusal}
-use Rattle.claim.specs.Step.{Memory, Stepped, memory, bookSound, step}
+use Rattle.claim.specs.Step.{Memory, Stepped, memory, bookSound, enrolledBook, step}
 
 -- "A refusal returns its number alone; gate, places and buffers keep their contents."
 abbrev pub Alone : Memory → Stepped → Type 0
@@ -67,6 +67,13 @@ module _ (m : Memory) where
   alone-register true (suc r) n rs h = (refl, refl)
   alone-register false r n rs h = (refl, refl)
 
+  -- call 1, which writes its group's money too
+  alone-enrol : (b : Bool) (r n : ℕ) (rs bs : List ℕ)
+      → Alone m (pick b (record { answer = unlessRefused r (accepted n) (refused r); memory = memory (unlessRefused r rs (m .register)) (unlessRefused r bs (m .book)) (m .places) }) (record { answer = refused UNSOUND; memory = m }))
+  alone-enrol true zero n rs bs h = absurd (h refl)
+  alone-enrol true (suc r) n rs bs h = (refl, refl)
+  alone-enrol false r n rs bs h = (refl, refl)
+
   -- calls 8 to 10
   alone-book : (r n : ℕ) (bs ps : List ℕ)
       → Alone m (record { answer = unlessRefused r (accepted n) (refused r); memory = memory (m .register) (unlessRefused r bs (m .book)) (unlessRefused r ps (m .places)) })
@@ -81,6 +88,13 @@ module _ (m : Memory) where
   alone-close false r rs bs h = (refl, refl)
 
   -- a register or a book that is not sound, at calls 1 to 7; s says whether the register is
+  hurt-enrol : (s b : Bool) (rules : List (ℕ × Bool)) (n : ℕ) (rs bs : List ℕ) → (s && b) ≡ false
+      → refusalIn (pick b (record { answer = unlessRefused (refusal ((UNSOUND, not s) ∷ rules)) (accepted n) (refused (refusal ((UNSOUND, not s) ∷ rules))); memory = memory rs bs (m .places) }) (record { answer = refused UNSOUND; memory = m })) ≡ UNSOUND
+  hurt-enrol true true rules n rs bs e = absurd (false≢true (sym e))
+  hurt-enrol false true rules n rs bs e = refl
+  hurt-enrol true false rules n rs bs e = refl
+  hurt-enrol false false rules n rs bs e = refl
+
   hurt-register : (s b : Bool) (rules : List (ℕ × Bool)) (n : ℕ) (rs : List ℕ) → (s && b) ≡ false
       → refusalIn (pick b (record { answer = unlessRefused (refusal ((UNSOUND, not s) ∷ rules)) (accepted n) (refused (refusal ((UNSOUND, not s) ∷ rules))); memory = memory rs (m .book) (m .places) }) (record { answer = refused UNSOUND; memory = m })) ≡ UNSOUND
   hurt-register true true rules n rs e = absurd (false≢true (sym e))
@@ -107,7 +121,8 @@ fails false b e = refl
 
 always-alone : (m : Memory) (c : Call) → Alone m (step shanghai m c)
 unfolding step enrolAnswer enrolAfter attachAfter detachAfter regularAfter raiseAfter withdrawAfter ownQuotaAfter closeAfter orderAnswer orderBook orderPlaces fillBook fillPlaces cancelBook cancelPlaces
-always-alone m (Enrol code class) = alone-register m (bookSound (m .register) (m .book) (m .places)) (enrolRefusal (m .register) code class) (groupCount (m .register)) (addGroup (m .register) (freshGroup code class))
+always-alone m (Enrol code class) =
+    alone-enrol m (bookSound (m .register) (m .book) (m .places)) (enrolRefusal (m .register) code class) (groupCount (m .register)) (addGroup (m .register) (freshGroup code class)) (putMoney (m .book) (groupsEnrolled (m .register)) noMoney)
 always-alone m (Attach unit group) = alone-register m (bookSound (m .register) (m .book) (m .places)) (attachRefusal (m .register) unit group) 0 (addUnit (m .register) unit group)
 always-alone m (Detach unit) = alone-register m (bookSound (m .register) (m .book) (m .places)) (detachRefusal (m .register) unit) 0 (removeUnit (m .register) unit)
 always-alone m (Regular declarer group base quota) = alone-register m (bookSound (m .register) (m .book) (m .places)) (regularRefusal (m .register) declarer group base quota) 0 (putGroup (m .register) group (declaredGroup (groupAt (m .register) group) declarer base quota))
@@ -130,7 +145,7 @@ always-alone m Close = alone-close m (bookSound (m .register) (m .book) (m .plac
 
 always-hurt : (m : Memory) (c : Call) → isWhole m ≡ false → refusalIn (step shanghai m c) ≡ UNSOUND
 unfolding step hostOk isSound bookSound enrolRefusal enrolAnswer attachRefusal detachRefusal regularRefusal raiseRefusal withdrawRefusal ownQuotaRefusal closeRefusal orderRefusal orderAnswer fillRefusal cancelRefusal
-always-hurt m (Enrol code class) e = hurt-register m (registerOk (m .register)) (bookOk (m .book) (m .places) (groupsEnrolled (m .register))) (enrolRules code class (enrolReads (m .register) code class)) (groupCount (m .register)) (enrolAfter (m .register) code class) e
+always-hurt m (Enrol code class) e = hurt-enrol m (registerOk (m .register)) (bookOk (m .book) (m .places) (groupsEnrolled (m .register))) (enrolRules code class (enrolReads (m .register) code class)) (groupCount (m .register)) (enrolAfter (m .register) code class) (enrolledBook (m .register) (m .book) code class) e
 always-hurt m (Attach unit group) e = hurt-register m (registerOk (m .register)) (bookOk (m .book) (m .places) (groupsEnrolled (m .register))) (attachRules unit group (attachReads (m .register) unit group)) 0 (attachAfter (m .register) unit group) e
 always-hurt m (Detach unit) e = hurt-register m (registerOk (m .register)) (bookOk (m .book) (m .places) (groupsEnrolled (m .register))) (detachRules unit (isThere (find unit (unitsOf (m .register))))) 0 (detachAfter (m .register) unit) e
 always-hurt m (Regular declarer group base quota) e = hurt-register m (registerOk (m .register)) (bookOk (m .book) (m .places) (groupsEnrolled (m .register))) (regularRules declarer group base quota (groupReads (m .register) group) (figureReads (m .register) group declarer)) 0 (regularAfter (m .register) declarer group base quota) e

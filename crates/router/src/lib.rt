@@ -40,7 +40,7 @@ pub struct Answer {
 
 // A fresh gate in a register and a book of any content, with as many order places as are lent; no place is written.
 #[no_mangle]
-pub extern "C" fn ekhurtza_open(register: &mut [u64], book: &mut [u64], places: &[u64]) -> u64
+pub extern "C" fn ekhurtza_open(register: &mut [u32], book: &mut [u64], places: &[u64]) -> u64
     ensures { λ r. ⌜ (r ≡ openRefusal (now (register .entry)) (now (book .entry)) (now (places .entry)))
         × ((now (register .exit) ≡ openRegister (now (register .entry)) (now (book .entry)) (now (places .entry)))
         × (now (book .exit) ≡ openBook (now (register .entry)) (now (book .entry)) (now (places .entry)))) ⌝ }
@@ -51,7 +51,7 @@ pub extern "C" fn ekhurtza_open(register: &mut [u64], book: &mut [u64], places: 
 // A call by its code and four fields. A code other than 1 to 11 is refused by 2 in a sound gate, by 1 in another (rules' `noCall`).
 #[no_mangle]
 pub extern "C" fn ekhurtza_call(
-    register: &mut [u64],
+    register: &mut [u32],
     book: &mut [u64],
     places: &mut [u64],
     code: u64,
@@ -75,7 +75,7 @@ pub extern "C" fn ekhurtza_call(
 // The listing into a lent buffer, and how many bytes it has.
 #[no_mangle]
 pub extern "C" fn ekhurtza_listing(
-    register: &[u64],
+    register: &[u32],
     book: &[u64],
     places: &[u64],
     buffer: &mut [u8],
@@ -149,7 +149,7 @@ fn put_row(out: &mut [u64], row: Row)
 // The row of a group as plain numbers.
 #[no_mangle]
 pub extern "C" fn ekhurtza_row(
-    register: &[u64],
+    register: &[u32],
     book: &[u64],
     places: &[u64],
     group: u64,

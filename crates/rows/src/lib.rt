@@ -190,7 +190,7 @@ fn shown_row(code: u64, class: u64, maximum: Limit, own: Limit, money: Money) ->
 }
 
 // The list: the host's memory, the group's number, its enrolment.
-fn refusal_of_row(register: &[u64], book: &[u64], places: &[u64], group: u64) -> u64
+fn refusal_of_row(register: &[u32], book: &[u64], places: &[u64], group: u64) -> u64
     ensures { λ r. ⌜ r ≡ rowRefusal (now (register .entry)) (now (book .entry)) (now (places .entry)) group ⌝ }
 {
     let r = first(!is_enrolled(register, group), NOT_THERE, 0);
@@ -199,7 +199,7 @@ fn refusal_of_row(register: &[u64], book: &[u64], places: &[u64], group: u64) ->
 }
 
 // The row that a group's words say, whether or not the rest of the memory is sound: for callers that have checked it once for all groups.
-pub fn row_at(register: &[u64], book: &[u64], group: u64) -> RowRead
+pub fn row_at(register: &[u32], book: &[u64], group: u64) -> RowRead
     ensures { λ r. ⌜ r ≡ rowAt (now (register .entry)) (now (book .entry)) group ⌝ }
 {
     let agreed = group_at(register, group as usize);
@@ -211,7 +211,7 @@ pub fn row_at(register: &[u64], book: &[u64], group: u64) -> RowRead
 }
 
 // The row of a group, by its number.
-pub fn row_of(register: &[u64], book: &[u64], places: &[u64], group: u64) -> RowRead
+pub fn row_of(register: &[u32], book: &[u64], places: &[u64], group: u64) -> RowRead
     ensures { λ r. ⌜ r ≡ rowOf (now (register .entry)) (now (book .entry)) (now (places .entry)) group ⌝ }
 {
     let refusal = refusal_of_row(register, book, places, group);

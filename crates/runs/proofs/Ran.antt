@@ -11,7 +11,7 @@ use lib.ListN.{length, drop, take, length-append, length-drop, drop-of-length-le
 use lib.Seq.{take-at, drop-append-add, drop-drop}
 use Rattle.rules.specs.Tests.{pick, both}
 use Rattle.rules.specs.Orders.{Rule, shanghai}
-use Rattle.rules.specs.Refusals.{UNSOUND, unlessRefused}
+use Rattle.rules.specs.Refusals.{OUT-OF-RANGE, unlessRefused}
 use Rattle.rules.specs.declared.calls.Call.{Call}
 use Rattle.rules.specs.declared.calls.Answer.{Answer}
 use Rattle.words.specs.Words.{splice, stored}
@@ -126,7 +126,7 @@ module _ (m₀ : Memory) (ws out : List ℕ) where
   unfolding runRefusal
   run-known e = go (eqb (length ws) (5 * callCount ws) && eqb (length out) (2 * callCount ws)) refl e
     where
-      go : (t : Bool) → (eqb (length ws) (5 * callCount ws) && eqb (length out) (2 * callCount ws)) ≡ t → pick t 0 UNSOUND ≡ 0 → (length ws ≡ 5 * callCount ws) × (length out ≡ 2 * callCount ws)
+      go : (t : Bool) → (eqb (length ws) (5 * callCount ws) && eqb (length out) (2 * callCount ws)) ≡ t → pick t 0 OUT-OF-RANGE ≡ 0 → (length ws ≡ 5 * callCount ws) × (length out ≡ 2 * callCount ws)
       go true q z =
           let a = both (eqb (length ws) (5 * callCount ws)) (eqb (length out) (2 * callCount ws)) q in
           (eqb-true (length ws) (5 * callCount ws) (a .0), eqb-true (length out) (2 * callCount ws) (a .1))

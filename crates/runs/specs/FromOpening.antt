@@ -12,7 +12,7 @@ use Rattle.claim.specs.Opening.{placesLent, openRefusal}
 use Rattle.claim.specs.Demand.{run, opened, Demand}
 use Rattle.runs.specs.Runs.{callsOf, answerWords, runRefusal}
 
--- 1 where the words are not five a call or the room is not two a call, or where the opening is refused
+-- 2 where the words are not five a call or the room is not two a call, 1 where the opening is refused
 unfoldable pub startRefusal : List ℕ → List ℕ → List ℕ → List ℕ → List ℕ → ℕ
 startRefusal rs bs ps ws out = unlessRefused (runRefusal ws out) (openRefusal rs bs ps) (runRefusal ws out)
 

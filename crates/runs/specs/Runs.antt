@@ -9,7 +9,7 @@ use lib.ListN.{length, getD}
 use Rattle.rules.specs.Tests.{pick}
 use Rattle.rules.specs.Orders.{shanghai}
 use Rattle.rules.specs.Codes.{callOf}
-use Rattle.rules.specs.Refusals.{UNSOUND, unlessRefused}
+use Rattle.rules.specs.Refusals.{OUT-OF-RANGE, unlessRefused}
 use Rattle.rules.specs.declared.calls.Call.{Call}
 use Rattle.rules.specs.declared.calls.Answer.{Answer}
 use Rattle.claim.specs.Step.{Memory}
@@ -36,9 +36,9 @@ unfoldable pub answerWords : List Answer → List ℕ
 answerWords [] = []
 answerWords (a ∷ as′) = a .refusal ∷ a .number ∷ answerWords as′
 
--- 1 where the words are not five a call, or the room for the answers is not two a call
+-- 2 where the words are not five a call, or the room for the answers is not two a call
 unfoldable pub runRefusal : List ℕ → List ℕ → ℕ
-runRefusal ws out = pick (eqb (length ws) (5 * callCount ws) && eqb (length out) (2 * callCount ws)) 0 UNSOUND
+runRefusal ws out = pick (eqb (length ws) (5 * callCount ws) && eqb (length out) (2 * callCount ws)) 0 OUT-OF-RANGE
 
 -- the memory afterwards, and what stands in the room for the answers
 unfoldable pub runMemory : Memory → List ℕ → List ℕ → Memory

@@ -12,7 +12,7 @@ use gate::calls::call;
 use opening::open;
 use rules::calls::Call;
 use rules::codes::call_of;
-use rules::refusals::UNSOUND;
+use rules::refusals::OUT_OF_RANGE;
 use words::store;
 use words::word;
 
@@ -37,7 +37,7 @@ fn call_at(calls: &[u64], i: usize) -> Call
 
 // One turn: call i carried out, and its answer stored.
 fn turn(
-    register: &mut [u64],
+    register: &mut [u32],
     book: &mut [u64],
     places: &mut [u64],
     calls: &[u64],
@@ -53,18 +53,18 @@ fn turn(
     store(answers, ANSWER_WORDS * i, &[answer.refusal, answer.number]);
 }
 
-// 0, or 1 where the words are not five a call or the room for the answers not two.
+// 0, or 2 where the words are not five a call or the room for the answers not two.
 fn refusal_of_run(calls: &[u64], answers: &[u64]) -> u64
     ensures { λ r. ⌜ r ≡ runRefusal (now (calls .entry)) (now (answers .entry)) ⌝ }
 {
     let n = calls.len() / CALL_WORDS;
     let ok = (calls.len() == CALL_WORDS * n) & (answers.len() == ANSWER_WORDS * n);
-    if ok { 0 } else { UNSOUND }
+    if ok { 0 } else { OUT_OF_RANGE }
 }
 
 // Every call in order, each with its answer; nothing is done where the lengths do not fit.
 pub fn run(
-    register: &mut [u64],
+    register: &mut [u32],
     book: &mut [u64],
     places: &mut [u64],
     calls: &[u64],
@@ -89,7 +89,7 @@ pub fn run(
 
 // A fresh gate, and every call in order: the third demand is this function's contract.
 pub fn run_from_opening(
-    register: &mut [u64],
+    register: &mut [u32],
     book: &mut [u64],
     places: &mut [u64],
     calls: &[u64],

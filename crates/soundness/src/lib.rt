@@ -1,89 +1,78 @@
-// The self check: every figure of the enrolled groups and of the attached units is in its range, and so are the counts.
-// One pass without early exit, over what is enrolled and attached alone.
+// The self check in columns: every figure of the enrolled groups and of the attached units is in its range, and so are the counts. Three loops without early exit:
+// the seven scalars of a group, a declarer with its figure, a unit with its group. Each loop reads neighbours in memory, so the compiler takes four at a time.
 ghost use mathlib.Core.Path.{_≡_};
 ghost use Prim.Native.Nat.{_≤_, _<_};
 ghost use lib.ListN.{length};
 ghost use Rattle.words.specs.Each.{allBelow};
-ghost use Rattle.register.specs.Check.{recordOk, groupOk, unitOk, registerOk};
-use register::layout::FIRST_GROUP;
+ghost use Rattle.register.specs.Check.{unitOk, registerOk};
+ghost use Rattle.register.specs.Columns.{scalarsOk, declaredOk};
+use register::layout::FIRST_DECLARER;
+use register::layout::FIRST_FIGURE;
+use register::layout::FIRST_SCALAR;
 use register::layout::FIRST_UNIT;
+use register::layout::FIRST_UNIT_GROUP;
 use register::layout::GROUPS;
 use register::layout::REGISTER;
-use register::layout::STRIDE;
+use register::layout::SCALARS;
 use register::layout::UNITS;
 
-// The greatest value of each word of a group's record.
-const MOST: [u64; 23] = [
-    99_999,
-    4,
-    10_000_000,
-    10_000_000,
-    200_000,
-    9_999_999,
-    8,
-    99_999,
-    99_999,
-    99_999,
-    99_999,
-    99_999,
-    99_999,
-    99_999,
-    99_999,
-    9_999_999,
-    9_999_999,
-    9_999_999,
-    9_999_999,
-    9_999_999,
-    9_999_999,
-    9_999_999,
-    9_999_999,
-];
+// The greatest values of code, class, maximum, own quota, holder, emergency figure, figures standing.
+const MOST: [u32; 7] = [99_999, 4, 10_000_000, 10_000_000, 200_000, 9_999_999, 8];
 
-// Every word of a record is in its range: at most its greatest value, the class 1 or more, and no figure where nobody holds an emergency.
-fn record_ok(w: &[u64]) -> bool
-    requires { ⌜ length (now w) ≡ 23 ⌝ }
-    ensures { λ r. ⌜ r ≡ recordOk (now (w .entry)) ⌝ }
+// The scalars of group i: at most their greatest values, the class 1 or more, and no figure where nobody holds an emergency.
+fn scalars_ok(register: &[u32], i: usize) -> bool
+    requires { ⌜ (length (now register) ≡ 2000) × (i < 64) ⌝ }
+    ensures { λ r. ⌜ r ≡ scalarsOk (now (register .entry)) i ⌝ }
 {
     let most = MOST;
     let mut ok = true;
-    let mut j: usize = 0;
-    while j < 23 {
-        ok = ok & (w[j] <= most[j]);
-        j += 1;
+    let mut k: usize = 0;
+    while k < SCALARS {
+        ok = ok & (register[FIRST_SCALAR + 64 * k + i] <= most[k]);
+        k += 1;
     }
-    ((1 <= w[1]) & !((w[4] == 200_000) & !(w[5] == 0))) & ok
+    ((1 <= register[1616 + i]) & !((register[1808 + i] == 200_000) & !(register[1872 + i] == 0)))
+        & ok
 }
 
-fn group_ok(register: &[u64], i: usize) -> bool
-    requires { ⌜ (length (now register) ≡ 1986) × (i < 64) ⌝ }
-    ensures { λ r. ⌜ r ≡ groupOk (now (register .entry)) i ⌝ }
-{
-    let b = FIRST_GROUP + STRIDE * i;
-    record_ok(&register[b..b + STRIDE])
-}
-
-fn groups_ok(register: &[u64], n: usize) -> bool
-    requires { ⌜ (length (now register) ≡ 1986) × (n ≤ 64) ⌝ }
-    ensures { λ r. ⌜ r ≡ allBelow n (groupOk (now (register .entry))) ⌝ }
+fn all_scalars_ok(register: &[u32], n: usize) -> bool
+    requires { ⌜ (length (now register) ≡ 2000) × (n ≤ 64) ⌝ }
+    ensures { λ r. ⌜ r ≡ allBelow n (scalarsOk (now (register .entry))) ⌝ }
 {
     let mut ok = true;
     let mut i: usize = 0;
     while i < n {
-        ok = ok & group_ok(register, i);
+        ok = ok & scalars_ok(register, i);
         i += 1;
     }
     ok
 }
 
-fn unit_ok(register: &[u64], k: usize) -> bool
-    requires { ⌜ (length (now register) ≡ 1986) × (k < 256) ⌝ }
-    ensures { λ r. ⌜ r ≡ unitOk (now (register .entry)) k ⌝ }
+// The first n declarers, counted over all groups, and their figures.
+fn declared_ok(register: &[u32], n: usize) -> bool
+    requires { ⌜ (length (now register) ≡ 2000) × (n ≤ 512) ⌝ }
+    ensures { λ r. ⌜ r ≡ allBelow n (declaredOk (now (register .entry))) ⌝ }
 {
-    (register[FIRST_UNIT + 2 * k] <= 99_999) & (register[FIRST_UNIT + 2 * k + 1] < register[GROUPS])
+    let mut ok = true;
+    let mut j: usize = 0;
+    while j < n {
+        ok = ok
+            & ((register[FIRST_DECLARER + j] <= 99_999)
+                & (register[FIRST_FIGURE + j] <= 9_999_999));
+        j += 1;
+    }
+    ok
 }
 
-fn units_ok(register: &[u64], n: usize) -> bool
-    requires { ⌜ (length (now register) ≡ 1986) × (n ≤ 256) ⌝ }
+fn unit_ok(register: &[u32], k: usize) -> bool
+    requires { ⌜ (length (now register) ≡ 2000) × (k < 256) ⌝ }
+    ensures { λ r. ⌜ r ≡ unitOk (now (register .entry)) k ⌝ }
+{
+    (register[FIRST_UNIT + k] <= 99_999) & (register[FIRST_UNIT_GROUP + k] < register[GROUPS])
+}
+
+fn units_ok(register: &[u32], n: usize) -> bool
+    requires { ⌜ (length (now register) ≡ 2000) × (n ≤ 256) ⌝ }
     ensures { λ r. ⌜ r ≡ allBelow n (unitOk (now (register .entry))) ⌝ }
 {
     let mut ok = true;
@@ -96,7 +85,7 @@ fn units_ok(register: &[u64], n: usize) -> bool
 }
 
 // Every figure of the register is in its range.
-pub fn register_ok(register: &[u64]) -> bool
+pub fn register_ok(register: &[u32]) -> bool
     ensures { λ r. ⌜ r ≡ registerOk (now (register .entry)) ⌝ }
 {
     if register.len() != REGISTER {
@@ -110,5 +99,7 @@ pub fn register_ok(register: &[u64]) -> bool
     if 256 < units {
         return false;
     }
-    groups_ok(register, groups as usize) & units_ok(register, units as usize)
+    let n = groups as usize;
+    (all_scalars_ok(register, n) & declared_ok(register, 8 * n))
+        & units_ok(register, units as usize)
 }

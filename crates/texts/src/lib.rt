@@ -3,7 +3,7 @@ ghost use mathlib.Core.Path.{_≡_};
 ghost use Prim.Native.Nat.{_+_, _*_, _≤_};
 ghost use lib.ListN.{length, drop};
 ghost use Rattle.columns.specs.Column.{part};
-ghost use Rattle.listing.specs.Text.{rowIn, readLine, fresh, rowsFrom, isListing, refusalOfText, stepAt};
+ghost use Rattle.listing.specs.Text.{rowIn, readLine, fresh, rowsFrom, isListing, refusalOfText, stepAt, stepIn, nextAt};
 use listing::lines::Line;
 use listing::lines::ROW;
 use listing::texts::Step;
@@ -114,4 +114,28 @@ pub fn step_at(text: &[u8], at: usize) -> Step
     }
     let row = line.row;
     Step::Next(row)
+}
+
+// The same by a reader whose text was refused by that number, or by 0: nothing of a refused text is handed out.
+pub fn step_in(text: &[u8], at: usize, refusal: u64) -> Step
+    ensures { λ r. ⌜ r ≡ stepIn (now (text .entry)) at refusal ⌝ }
+{
+    if refusal != 0 {
+        return Step::Broken;
+    }
+    step_at(text, at)
+}
+
+// The place behind the row at a place; the same where too few bytes are left for a row.
+pub fn next_at(text: &[u8], at: usize) -> usize
+    ensures { λ r. ⌜ r ≡ nextAt (now (text .entry)) at ⌝ }
+{
+    if text.len() < ROW {
+        return at;
+    }
+    let last = text.len() - ROW;
+    if last < at {
+        return at;
+    }
+    at + ROW
 }

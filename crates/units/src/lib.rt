@@ -1,48 +1,84 @@
-// The attached units, each with its group: a keyed list in the words above the groups.
+// The attached units, each with its group: a keyed list in two columns.
 ghost use mathlib.Core.Path.{_≡_};
 ghost use Rattle.rules.specs.Keyed.{find, isThere, orElse};
 ghost use Rattle.register.specs.Layout.{unitCount, unitsOf, addUnit, removeUnit};
-use pairs::is_there;
 use pairs::place_of;
-use pairs::put_pair;
-use pairs::remove_pair;
-use pairs::value_of;
+use pairs::remove_word;
+use register::layout::FIRST_SCALAR;
 use register::layout::FIRST_UNIT;
+use register::layout::FIRST_UNIT_GROUP;
 use register::layout::REGISTER;
 use register::layout::UNITS;
-use words::word;
+use words::low;
+use words::wide;
+use words::word32;
 
 // Units attached; 0 in a memory without a header.
-pub fn unit_count(register: &[u64]) -> u64
+pub fn unit_count(register: &[u32]) -> u64
     ensures { λ r. ⌜ r ≡ unitCount (now (register .entry)) ⌝ }
 {
-    word(register, UNITS)
+    word32(register, UNITS)
 }
 
 // The unit is attached.
-pub fn is_attached(register: &[u64], unit: u64) -> bool
+pub fn is_attached(register: &[u32], unit: u64) -> bool
     ensures { λ r. ⌜ r ≡ isThere (find unit (unitsOf (now (register .entry)))) ⌝ }
 {
     if register.len() != REGISTER {
         return false;
     }
-    let n = register[UNITS];
-    is_there(&register[FIRST_UNIT..REGISTER], n as usize, unit)
+    let n = wide(register[UNITS]) as usize;
+    place_of(&register[FIRST_UNIT..FIRST_UNIT_GROUP], n, unit) < n
 }
 
 // The group of an attached unit; 0 where it is not attached.
-pub fn group_of_unit(register: &[u64], unit: u64) -> u64
+pub fn group_of_unit(register: &[u32], unit: u64) -> u64
     ensures { λ r. ⌜ r ≡ orElse 0 (find unit (unitsOf (now (register .entry)))) ⌝ }
 {
     if register.len() != REGISTER {
         return 0;
     }
-    let n = register[UNITS];
-    value_of(&register[FIRST_UNIT..REGISTER], n as usize, unit)
+    let n = wide(register[UNITS]) as usize;
+    let k = place_of(&register[FIRST_UNIT..FIRST_UNIT_GROUP], n, unit);
+    if k < n {
+        return wide(register[FIRST_UNIT_GROUP + k]);
+    }
+    0
+}
+
+// Both at once: one search.
+pub struct Found {
+    pub attached: bool,
+    pub group: u64,
+}
+
+pub fn find_unit(register: &[u32], unit: u64) -> Found
+    ensures { λ r. ⌜ (r .attached ≡ isThere (find unit (unitsOf (now (register .entry)))))
+        × (r .group ≡ orElse 0 (find unit (unitsOf (now (register .entry))))) ⌝ }
+{
+    if register.len() != REGISTER {
+        return Found {
+            attached: false,
+            group: 0,
+        };
+    }
+    let n = wide(register[UNITS]) as usize;
+    let k = place_of(&register[FIRST_UNIT..FIRST_UNIT_GROUP], n, unit);
+    if k < n {
+        let group = wide(register[FIRST_UNIT_GROUP + k]);
+        return Found {
+            attached: true,
+            group: group,
+        };
+    }
+    Found {
+        attached: false,
+        group: 0,
+    }
 }
 
 // One more unit, behind the others; nothing where there is no room.
-pub fn add_unit(register: &mut [u64], unit: u64, group: u64)
+pub fn add_unit(register: &mut [u32], unit: u64, group: u64)
     ensures { λ _. ⌜ now (register .exit) ≡ addUnit (now (register .entry)) unit group ⌝ }
 {
     if register.len() != REGISTER {
@@ -52,12 +88,16 @@ pub fn add_unit(register: &mut [u64], unit: u64, group: u64)
     if 256 <= n {
         return;
     }
-    put_pair(&mut register[FIRST_UNIT..REGISTER], n as usize, unit, group);
+    let k = n as usize;
+    let u = low(unit);
+    let g = low(group);
+    register[FIRST_UNIT + k] = u;
+    register[FIRST_UNIT_GROUP + k] = g;
     register[UNITS] = n + 1;
 }
 
 // The unit taken out, the later ones moved down; nothing where it is not attached.
-pub fn remove_unit(register: &mut [u64], unit: u64)
+pub fn remove_unit(register: &mut [u32], unit: u64)
     ensures { λ _. ⌜ now (register .exit) ≡ removeUnit (now (register .entry)) unit ⌝ }
 {
     if register.len() != REGISTER {
@@ -67,10 +107,12 @@ pub fn remove_unit(register: &mut [u64], unit: u64)
     if 256 < n {
         return;
     }
-    let k = place_of(&register[FIRST_UNIT..REGISTER], n as usize, unit);
-    if n as usize <= k {
+    let m = n as usize;
+    let k = place_of(&register[FIRST_UNIT..FIRST_UNIT_GROUP], m, unit);
+    if m <= k {
         return;
     }
-    remove_pair(&mut register[FIRST_UNIT..REGISTER], n as usize, k);
+    remove_word(&mut register[FIRST_UNIT..FIRST_UNIT_GROUP], m, k);
+    remove_word(&mut register[FIRST_UNIT_GROUP..FIRST_SCALAR], m, k);
     register[UNITS] = n - 1;
 }

@@ -17,7 +17,7 @@ use rules::refusals::UNSOUND;
 use rules::refusals::first;
 use soundness::register_ok;
 
-fn reads_of_group(register: &[u64], group: u64) -> GroupReads
+fn reads_of_group(register: &[u32], group: u64) -> GroupReads
     ensures { λ r. ⌜ r ≡ groupReads (now (register .entry)) group ⌝ }
 {
     let agreed = group_at(register, group as usize);
@@ -31,7 +31,7 @@ fn reads_of_group(register: &[u64], group: u64) -> GroupReads
     }
 }
 
-fn reads_of_figures(register: &[u64], group: u64, declarer: u64) -> FigureReads
+fn reads_of_figures(register: &[u32], group: u64, declarer: u64) -> FigureReads
     ensures { λ r. ⌜ r ≡ figureReads (now (register .entry)) group declarer ⌝ }
 {
     let agreed = group_at(register, group as usize);
@@ -45,7 +45,7 @@ fn reads_of_figures(register: &[u64], group: u64, declarer: u64) -> FigureReads
 }
 
 pub fn refusal_of_regular(
-    register: &[u64],
+    register: &[u32],
     declarer: u64,
     group: u64,
     base: Millions,
@@ -60,7 +60,7 @@ pub fn refusal_of_regular(
 }
 
 pub fn refusal_of_raise(
-    register: &[u64],
+    register: &[u32],
     declarer: u64,
     group: u64,
     quota: Millions,
@@ -78,14 +78,14 @@ pub fn refusal_of_raise(
     first(!register_ok(register), UNSOUND, r)
 }
 
-pub fn refusal_of_withdraw(register: &[u64], declarer: u64, group: u64) -> u64
+pub fn refusal_of_withdraw(register: &[u32], declarer: u64, group: u64) -> u64
     ensures { λ r. ⌜ r ≡ withdrawRefusal (now (register .entry)) declarer group ⌝ }
 {
     let r = withdraw_refusal(declarer, group, reads_of_group(register, group));
     first(!register_ok(register), UNSOUND, r)
 }
 
-pub fn refusal_of_own_quota(register: &[u64], group: u64, quota: Millions) -> u64
+pub fn refusal_of_own_quota(register: &[u32], group: u64, quota: Millions) -> u64
     ensures { λ r. ⌜ r ≡ ownQuotaRefusal (now (register .entry)) group quota ⌝ }
 {
     let r = own_quota_refusal(group, quota, reads_of_group(register, group));

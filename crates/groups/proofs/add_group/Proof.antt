@@ -21,6 +21,9 @@ returns-2 : tie.Need-returns-2
 unfolding addGroup
 returns-2 c = rw (eq-eqb _ _ (c .before .before .if1 .left), le-ltb _ _ (c .if2 .taken))
 
+cast-put-group : tie.Need-cast-put-group
+cast-put-group c = search needs
+
 put-group-requires : tie.Need-put-group-requires
 put-group-requires c κs = search needs
 
@@ -44,7 +47,7 @@ add-group-spec =
     returns
     slice-read-n
     returns-2
-    put-group-requires
+    cast-put-group put-group-requires
     add-register
     slice-write-register
     same-length

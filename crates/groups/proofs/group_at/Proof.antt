@@ -1,53 +1,51 @@
--- `groups::group_at` meets its contract. Assumes nothing.
 use mathlib.Core.Path.{ap, _∙_}
 use borrow.Author.Tests.{lt-ltb, le-ltb, ne-eqb}
-use denote.Ref.{now}
 use Rattle.register.specs.Layout.{recordAt, groupOf}
-use Rattle.register.proofs.Steps.{read-step}
+use Rattle.register.specs.Records.{length-record}
+use denote.Ref.{now}
+use native.Mathlib.Omega.{arith}
 use borrow.Author.Needs.{needs}
 use Rattle.groups.proofs.group_at.Statement.{statement}
 use Rattle.groups.proofs.group_at.Tie as tie
+use Rattle.groups.proofs.group_at.Reads as reads
+use Rattle.groups.proofs.group_at.Lts as lts
+use Rattle.groups.proofs.gathered.Reads as gathered-reads
+use Rattle.groups.proofs.group_of.Reads as group-of-reads
+use Rattle.groups.proofs.no_group.Reads as no-group-reads
 
+-- src/lib.rt:172:9
 no-group-requires : tie.Need-no-group-requires
 no-group-requires c κs = search needs
 
+-- src/lib.rt:172:9
 returns : tie.Need-returns
 unfolding recordAt
 returns c = c .no-group .ensures ∙ rw (le-ltb _ _ (c .before .if1 .taken))
 
+-- src/lib.rt:175:9
 no-group-requires-2 : tie.Need-no-group-requires-2
 no-group-requires-2 c κs = search needs
 
+-- src/lib.rt:175:9
 returns-2 : tie.Need-returns-2
 unfolding recordAt
 returns-2 c = c .no-group2 .ensures ∙ rw (lt-ltb _ _ (c .before .before .if1 .left), ne-eqb _ _ (c .before .if2 .taken))
 
-mul-b : tie.Need-mul-b
-mul-b c = search needs
+-- src/lib.rt:177:13
+gathered-requires : tie.Need-gathered-requires
+gathered-requires c κs = search needs
 
-add-b : tie.Need-add-b
-add-b c = search needs
+-- src/lib.rt:178:14
+slice-aggregate-group-of : tie.Need-slice-aggregate-group-of
+slice-aggregate-group-of c = search needs
 
-add-group-of : tie.Need-add-group-of
-add-group-of c = search needs
-
-mul-group-of : tie.Need-mul-group-of
-mul-group-of c = search needs
-
-sub-group-of : tie.Need-sub-group-of
-sub-group-of c = search needs
-
-part-group-of-start : tie.Need-part-group-of-start
-part-group-of-start c = search needs
-
-part-group-of-end : tie.Need-part-group-of-end
-part-group-of-end c = search needs
-
+-- src/lib.rt:178:5
 group-of-requires : tie.Need-group-of-requires
 group-of-requires c κs = search needs
 
+-- src/lib.rt:168:1
 returns-3 : tie.Need-returns-3
-returns-3 c = c .group-of .ensures ∙ ap groupOf (read-step (now (c .before .before .before .before .before .args .register)) (c .before .before .before .before .before .args .i) (c .before .before .before .if1 .left) (c .before .before .if2 .left))
+returns-3 c = c .group-of .ensures ∙ ap groupOf (c .before .before .gathered .ensures)
 
 pub group-at-spec : {M : Type 1} → statement M
 group-at-spec =
@@ -57,12 +55,7 @@ group-at-spec =
     returns
     no-group-requires-2
     returns-2
-    mul-b
-    add-b
-    add-group-of
-    mul-group-of
-    sub-group-of
-    part-group-of-start
-    part-group-of-end
+    gathered-requires
+    slice-aggregate-group-of
     group-of-requires
     returns-3)

@@ -4,8 +4,8 @@ use borrow.Author.Needs.{needs}
 use Rattle.groups.proofs.is_taken.Statement.{statement}
 use Rattle.groups.proofs.is_taken.Tie as tie
 
-word-requires : tie.Need-word-requires
-word-requires c κs = search needs
+word32-requires : tie.Need-word32-requires
+word32-requires c κs = search needs
 
 smaller-requires : tie.Need-smaller-requires
 smaller-requires c κs = search needs
@@ -15,7 +15,7 @@ none-of-requires c κs = search needs
 
 returns : tie.Need-returns
 unfolding isTaken
-returns c = rw (c .none-of .ensures, c .before .smaller .ensures, c .before .before .word .ensures)
+returns c = rw (c .none-of .ensures, c .before .smaller .ensures, c .before .before .word32 .ensures)
 
 pub is-taken-spec : {M : Type 1} → statement M
-is-taken-spec = tie.close (tie.spec word-requires smaller-requires none-of-requires returns)
+is-taken-spec = tie.close (tie.spec word32-requires smaller-requires none-of-requires returns)

@@ -26,11 +26,11 @@ slice-aggregate-store c = search needs
 store-requires : tie.Need-store-requires
 store-requires c κs = search needs
 
-slice-aggregate-store-2 : tie.Need-slice-aggregate-store-2
-slice-aggregate-store-2 c = search needs
+slice-aggregate-store32 : tie.Need-slice-aggregate-store32
+slice-aggregate-store32 c = search needs
 
-store-requires-2 : tie.Need-store-requires-2
-store-requires-2 c κs = search needs
+store32-requires : tie.Need-store32-requires
+store32-requires c κs = search needs
 
 same-length-3 : tie.Need-same-length-3
 same-length-3 c = search needs
@@ -39,7 +39,7 @@ same-length-4 : tie.Need-same-length-4
 same-length-4 c = search needs
 
 returns-2 : tie.Need-returns-2
-returns-2 c = open-done (now (c .before .before .before .before .before .before .before .before .before .before .before .before .before .before .before .before .before .args .register)) (now (c .before .before .before .before .before .before .before .before .before .before .before .before .before .before .before .before .before .args .book)) (now (c .before .before .before .before .before .before .before .before .before .before .before .before .before .before .before .before .before .args .places)) (c .before .before .before .before .before .before .before .before .before .before .before .refusal-of-opening .result) _ _ (c .before .before .before .before .before .before .before .before .before .before .before .refusal-of-opening .ensures) (c .before .before .before .before .before .before .before .before .before .before .if1 .left) (c .before .before .store2 .ensures) (c .before .before .before .before .before .before .before .store .ensures)
+returns-2 c = open-done (now (c .before .before .before .before .before .before .before .before .before .before .before .before .before .before .before .before .before .args .register)) (now (c .before .before .before .before .before .before .before .before .before .before .before .before .before .before .before .before .before .args .book)) (now (c .before .before .before .before .before .before .before .before .before .before .before .before .before .before .before .before .before .args .places)) (c .before .before .before .before .before .before .before .before .before .before .before .refusal-of-opening .result) _ _ (c .before .before .before .before .before .before .before .before .before .before .before .refusal-of-opening .ensures) (c .before .before .before .before .before .before .before .before .before .before .if1 .left) (c .before .before .store32 .ensures) (c .before .before .before .before .before .before .before .store .ensures)
 
 pub open-spec : {M : Type 1} → statement M
 open-spec =
@@ -52,8 +52,8 @@ open-spec =
     array-write-fresh
     slice-aggregate-store
     store-requires
-    slice-aggregate-store-2
-    store-requires-2
+    slice-aggregate-store32
+    store32-requires
     same-length-3
     same-length-4
     returns-2)

@@ -24,18 +24,15 @@ same-length-2 c = search needs
 returns : tie.Need-returns
 returns c =
     let a = c .before .before .before .before .before .before .before .before .args in
-    by-list shanghai (now (a .register)) (now (a .book)) (now (a .places)) (a .unit) (a .kind) (a .price) (a .quantity) _ _ (c .refused-by .ensures) (c .before .before .listed-of-order .ensures) (c .before .if1 .taken)
-
-group-of-unit-requires : tie.Need-group-of-unit-requires
-group-of-unit-requires c κs = search needs
+    by-list shanghai (now (a .register)) (now (a .book)) (now (a .places)) (a .unit) (a .kind) (a .price) (a .quantity) _ _ (c .refused-by .ensures) (c .before .before .listed-of-order .ensures .0) (c .before .if1 .taken)
 
 money-at-requires : tie.Need-money-at-requires
 money-at-requires c κs = search needs
 
 booked-order-requires : tie.Need-booked-order-requires
 booked-order-requires c κs =
-    let a = c .before .before .before .before .before .before .before .before .before .before .args in
-    order-needs shanghai (now (a .register)) (now (a .book)) (now (a .places)) (a .unit) (a .kind) (a .price) (a .quantity) (sym (c .before .before .before .before .listed-of-order .ensures) ∙ c .before .before .before .if1 .left) (c .money-at .result) (c .before .before .group-of-unit .result) (c .money-at .ensures) (c .before .before .group-of-unit .ensures)
+    let a = c .before .before .before .before .before .before .before .before .before .args in
+    order-needs shanghai (now (a .register)) (now (a .book)) (now (a .places)) (a .unit) (a .kind) (a .price) (a .quantity) (sym (c .before .before .before .listed-of-order .ensures .0) ∙ c .before .before .if1 .left) (c .money-at .result) (c .before .before .before .listed-of-order .result .group) (c .money-at .ensures) (c .before .before .before .listed-of-order .ensures .1)
 
 refused-by-requires-2 : tie.Need-refused-by-requires-2
 refused-by-requires-2 c κs = search needs
@@ -48,16 +45,16 @@ same-length-4 c = search needs
 
 returns-2 : tie.Need-returns-2
 returns-2 c =
-    let a = c .before .before .before .before .before .before .before .before .before .before .before .before .before .before .args in
-    by-money shanghai (now (a .register)) (now (a .book)) (now (a .places)) (a .unit) (a .kind) (a .price) (a .quantity) (c .before .before .before .before .before .before .before .before .listed-of-order .result) (c .before .before .before .before .before .before .before .before .listed-of-order .ensures) (c .before .before .before .before .before .before .before .if1 .left) (c .before .before .before .before .before .before .group-of-unit .result) (c .before .before .before .before .before .before .group-of-unit .ensures) (c .before .before .before .before .money-at .result) (c .before .before .before .before .money-at .ensures) (c .before .before .before .booked-order .result) (c .before .before .before .booked-order .ensures) _ (c .refused-by2 .ensures) (c .before .if2 .taken)
+    let a = c .before .before .before .before .before .before .before .before .before .before .before .before .before .args in
+    by-money shanghai (now (a .register)) (now (a .book)) (now (a .places)) (a .unit) (a .kind) (a .price) (a .quantity) (c .before .before .before .before .before .before .before .listed-of-order .result .refusal) (c .before .before .before .before .before .before .before .listed-of-order .ensures .0) (c .before .before .before .before .before .before .if1 .left) (c .before .before .before .before .before .before .before .listed-of-order .result .group) (c .before .before .before .before .before .before .before .listed-of-order .ensures .1) (c .before .before .before .before .money-at .result) (c .before .before .before .before .money-at .ensures) (c .before .before .before .booked-order .result) (c .before .before .before .booked-order .ensures) _ (c .refused-by2 .ensures) (c .before .if2 .taken)
 
 accepted-of-requires : tie.Need-accepted-of-requires
 accepted-of-requires c κs = search needs
 
 add-number : tie.Need-add-number
 add-number c =
-    let a = c .before .before .before .before .before .before .before .before .before .before .before .before .before .before .before .before .args in
-    omega (arith, c .accepted-of .ensures, order-number shanghai (now (a .register)) (now (a .book)) (now (a .places)) (a .unit) (a .kind) (a .price) (a .quantity) (sym (c .before .before .before .before .before .before .before .before .before .before .listed-of-order .ensures) ∙ c .before .before .before .before .before .before .before .before .before .if1 .left))
+    let a = c .before .before .before .before .before .before .before .before .before .before .before .before .before .before .before .args in
+    omega (arith, c .accepted-of .ensures, order-number shanghai (now (a .register)) (now (a .book)) (now (a .places)) (a .unit) (a .kind) (a .price) (a .quantity) (sym (c .before .before .before .before .before .before .before .before .before .listed-of-order .ensures .0) ∙ c .before .before .before .before .before .before .before .before .if1 .left))
 
 put-place-requires : tie.Need-put-place-requires
 put-place-requires c κs = search needs
@@ -79,8 +76,8 @@ same-length-6 c = search needs
 
 returns-3 : tie.Need-returns-3
 returns-3 c =
-    let a = c .before .before .before .before .before .before .before .before .before .before .before .before .before .before .before .before .before .before .before .before .before .before .before .before .before .before .before .before .before .args in
-    taken shanghai (now (a .register)) (now (a .book)) (now (a .places)) (a .unit) (a .kind) (a .price) (a .quantity) (c .before .before .before .before .before .before .before .before .before .before .before .before .before .before .before .before .before .before .before .before .before .before .before .listed-of-order .result) (c .before .before .before .before .before .before .before .before .before .before .before .before .before .before .before .before .before .before .before .before .before .before .before .listed-of-order .ensures) (c .before .before .before .before .before .before .before .before .before .before .before .before .before .before .before .before .before .before .before .before .before .before .if1 .left) (c .before .before .before .before .before .before .before .before .before .before .before .before .before .before .before .before .before .before .before .before .before .group-of-unit .result) (c .before .before .before .before .before .before .before .before .before .before .before .before .before .before .before .before .before .before .before .before .before .group-of-unit .ensures) (c .before .before .before .before .before .before .before .before .before .before .before .before .before .before .before .before .before .before .before .money-at .result) (c .before .before .before .before .before .before .before .before .before .before .before .before .before .before .before .before .before .before .before .money-at .ensures) (c .before .before .before .before .before .before .before .before .before .before .before .before .before .before .before .before .before .before .booked-order .result) (c .before .before .before .before .before .before .before .before .before .before .before .before .before .before .before .before .before .before .booked-order .ensures) _ (c .before .before .before .before .before .before .before .before .before .before .before .before .before .accepted-of .result) _ _ _ (c .accepted-as .ensures) (c .before .before .before .before .before .before .before .before .before .before .before .before .before .before .before .before .if2 .left) (c .before .before .before .before .before .before .before .before .before .before .before .before .before .accepted-of .ensures) (c .before .before .before .before .before .before .before .before .before .before .before .put-place .ensures) (c .before .before .before .before .before .before .before .put-money .ensures) (c .before .before .before .put-accepted .ensures)
+    let a = c .before .before .before .before .before .before .before .before .before .before .before .before .before .before .before .before .before .before .before .before .before .before .before .before .before .before .before .before .args in
+    taken shanghai (now (a .register)) (now (a .book)) (now (a .places)) (a .unit) (a .kind) (a .price) (a .quantity) (c .before .before .before .before .before .before .before .before .before .before .before .before .before .before .before .before .before .before .before .before .before .before .listed-of-order .result .refusal) (c .before .before .before .before .before .before .before .before .before .before .before .before .before .before .before .before .before .before .before .before .before .before .listed-of-order .ensures .0) (c .before .before .before .before .before .before .before .before .before .before .before .before .before .before .before .before .before .before .before .before .before .if1 .left) (c .before .before .before .before .before .before .before .before .before .before .before .before .before .before .before .before .before .before .before .before .before .before .listed-of-order .result .group) (c .before .before .before .before .before .before .before .before .before .before .before .before .before .before .before .before .before .before .before .before .before .before .listed-of-order .ensures .1) (c .before .before .before .before .before .before .before .before .before .before .before .before .before .before .before .before .before .before .before .money-at .result) (c .before .before .before .before .before .before .before .before .before .before .before .before .before .before .before .before .before .before .before .money-at .ensures) (c .before .before .before .before .before .before .before .before .before .before .before .before .before .before .before .before .before .before .booked-order .result) (c .before .before .before .before .before .before .before .before .before .before .before .before .before .before .before .before .before .before .booked-order .ensures) _ (c .before .before .before .before .before .before .before .before .before .before .before .before .before .accepted-of .result) _ _ _ (c .accepted-as .ensures) (c .before .before .before .before .before .before .before .before .before .before .before .before .before .before .before .before .if2 .left) (c .before .before .before .before .before .before .before .before .before .before .before .before .before .accepted-of .ensures) (c .before .before .before .before .before .before .before .before .before .before .before .put-place .ensures) (c .before .before .before .before .before .before .before .put-money .ensures) (c .before .before .before .put-accepted .ensures)
 
 pub order-spec : {M : Type 1} → statement M
 order-spec =
@@ -91,7 +88,6 @@ order-spec =
     same-length
     same-length-2
     returns
-    group-of-unit-requires
     money-at-requires
     booked-order-requires
     refused-by-requires-2

@@ -38,7 +38,7 @@ use denote.Triple.Table.{entered, cited}
 use denote.Triple.Walked.{says, Stays, stay-none, stay-none-slice, walkOf, goes-none, goes-none-slice, Walks, ends-at, walked, walk-meets}
 use denote.Exit.{yes}
 use denote.Triple.Clauses.{ensured, lasts}
-use Rattle.listing.specs.Text.{stepAt}
+use Rattle.listing.specs.Text.{refusalOfText, stepIn, stepOf}
 use Rattle.listing.specs.declared.reader.ListingReader.{ListingReader}
 use Rattle.listing.specs.declared.texts.Step.{Step}
 use Rattle.listing.proofs.reader.ListingReader as T
@@ -86,7 +86,7 @@ module _ {M : Type 1} (𝓤 : URA M) (H : Heap 𝓤) (A : Atoms 𝓤) (W : Given
   v = sliceVal (s .ptr) (length (s .now))
 
   abbrev found : Step
-  found = stepAt (now s) n
+  found = stepOf (now s) n
 
   -- the struct's type as a local of a body has it
   abbrev αᵉ : NamedLft
@@ -120,8 +120,8 @@ module _ {M : Type 1} (𝓤 : URA M) (H : Heap 𝓤) (A : Atoms 𝓤) (W : Given
       nothing ! $ move ! (1 ∷ 0 ∷ []) $ fjoin ! $ move ! (3 ∷ 0 ∷ []) $ use2 W (raw (Opened 𝓤 H A mem run .pre to-opened)) asked-opened $
       move ! (1 ∷ 2 ∷ []) $ fjoin ! $ move ! (1 ∷ []) $ frame ! $ done !
 
-  opened-said : (r : ListingReader) → ent 𝓤 (ensured 𝓤 H A opened.ended (opened.clauses 𝓤 H A mem run) (κ, tt) (s, tt) tt r) (fact 𝓤 ((r .text ≡ s) × (r .at ≡ 0)))
-  opened-said r = exE 𝓤 _ (λ ws. snd∗ 𝓤 (sem 𝓤 H A (lasts opened.ended (κ, tt) (s, tt) ws)) (fact 𝓤 ((r .text ≡ s) × (r .at ≡ 0))))
+  opened-said : (r : ListingReader) → ent 𝓤 (ensured 𝓤 H A opened.ended (opened.clauses 𝓤 H A mem run) (κ, tt) (s, tt) tt r) (fact 𝓤 ((r .text ≡ s) × ((r .at ≡ 0) × (r .refusal ≡ refusalOfText (now s)))))
+  opened-said r = exE 𝓤 _ (λ ws. snd∗ 𝓤 (sem 𝓤 H A (lasts opened.ended (κ, tt) (s, tt) ws)) (fact 𝓤 ((r .text ≡ s) × ((r .at ≡ 0) × (r .refusal ≡ refusalOfText (now s))))))
 
   -- the call of `moved`, at the struct r with the machine value u
   abbrev to-moved : ListingReader → Val → Moved 𝓤 H A mem run .Ghost
@@ -132,8 +132,8 @@ module _ {M : Type 1} (𝓤 : URA M) (H : Heap 𝓤) (A : Atoms 𝓤) (W : Given
       qed W (‵ (B (κ, tt) .own r (u ∷ [])) ∷ (‵ (flft κ q) ⊛ ‵ ftrue) ∷ []) ∵
       nothing ! $ owned ! usize (Is usize) (uint-makes 𝓤 H A W w64) n _ (refl, ok) $ fjoin ! $ move ! (1 ∷ 0 ∷ []) $ fjoin ! $ move ! (1 ∷ 0 ∷ []) $ join ! $ frame ! $ done !
 
-  moved-said : (r p : ListingReader) → ent 𝓤 (ensured 𝓤 H A moved.ended (moved.clauses 𝓤 H A mem run) (κ, tt) (r, (n, tt)) tt p) (fact 𝓤 ((p .text ≡ r .text) × (p .at ≡ n)))
-  moved-said r p = exE 𝓤 _ (λ ws. snd∗ 𝓤 (sem 𝓤 H A (lasts moved.ended (κ, tt) (r, (n, tt)) ws)) (fact 𝓤 ((p .text ≡ r .text) × (p .at ≡ n))))
+  moved-said : (r p : ListingReader) → ent 𝓤 (ensured 𝓤 H A moved.ended (moved.clauses 𝓤 H A mem run) (κ, tt) (r, (n, tt)) tt p) (fact 𝓤 ((p .text ≡ r .text) × ((p .at ≡ n) × (p .refusal ≡ r .refusal))))
+  moved-said r p = exE 𝓤 _ (λ ws. snd∗ 𝓤 (sem 𝓤 H A (lasts moved.ended (κ, tt) (r, (n, tt)) ws)) (fact 𝓤 ((p .text ≡ r .text) × ((p .at ≡ n) × (p .refusal ≡ r .refusal)))))
 
   -- the call of `next`
   abbrev to-next : ListingReader → Val → Next 𝓤 H A mem run .Ghost
@@ -142,12 +142,16 @@ module _ {M : Type 1} (𝓤 : URA M) (H : Heap 𝓤) (A : Atoms 𝓤) (W : Given
   goes-next : (r : ListingReader) (u : Val) → ent 𝓤 (⋆ 𝓤 H A (‵ (B (κ, tt) .own r (u ∷ [])) ∷ (‵ (flft κ q) ⊛ ‵ ftrue) ∷ [])) (Next 𝓤 H A mem run .pre (to-next r u))
   goes-next r u = qed W (‵ (B (κ, tt) .own r (u ∷ [])) ∷ (‵ (flft κ q) ⊛ ‵ ftrue) ∷ []) ∵ nothing ! $ move ! (1 ∷ 0 ∷ []) $ fjoin ! $ move ! (1 ∷ 0 ∷ []) $ join ! $ frame ! $ done !
 
-  next-said : (r : ListingReader) (t : Step) → ent 𝓤 (ensured 𝓤 H A next.ended (next.clauses 𝓤 H A mem run) (κ, tt) (r, tt) tt t) (fact 𝓤 (t ≡ stepAt (now (r .text)) (r .at)))
-  next-said r t = exE 𝓤 _ (λ ws. snd∗ 𝓤 (sem 𝓤 H A (lasts next.ended (κ, tt) (r, tt) ws)) (fact 𝓤 (t ≡ stepAt (now (r .text)) (r .at))))
+  next-said : (r : ListingReader) (t : Step) → ent 𝓤 (ensured 𝓤 H A next.ended (next.clauses 𝓤 H A mem run) (κ, tt) (r, tt) tt t) (fact 𝓤 (t ≡ stepIn (now (r .text)) (r .at) (r .refusal)))
+  next-said r t = exE 𝓤 _ (λ ws. snd∗ 𝓤 (sem 𝓤 H A (lasts next.ended (κ, tt) (r, tt) ws)) (fact 𝓤 (t ≡ stepIn (now (r .text)) (r .at) (r .refusal))))
 
   -- what the three together say
-  told : (r p : ListingReader) (t : Step) → (r .text ≡ s) × (r .at ≡ 0) → (p .text ≡ r .text) × (p .at ≡ n) → t ≡ stepAt (now (p .text)) (p .at) → t ≡ found
-  told r p t e f g = g ∙ (ap (λ (x : RefT (List ℕ)). stepAt (now x) (p .at)) (f .0 ∙ e .0) ∙ ap (stepAt (now s)) (f .1))
+  told : (r p : ListingReader) (t : Step) → (r .text ≡ s) × ((r .at ≡ 0) × (r .refusal ≡ refusalOfText (now s))) → (p .text ≡ r .text) × ((p .at ≡ n) × (p .refusal ≡ r .refusal)) → t ≡ stepIn (now (p .text)) (p .at) (p .refusal) → t ≡ found
+  told r p t e f g =
+      g
+      ∙ ap (λ (x : RefT (List ℕ)). stepIn (now x) (p .at) (p .refusal)) (f .0 ∙ e .0)
+      ∙ ap (λ (k : ℕ). stepIn (now s) k (p .refusal)) (f .1 .0)
+      ∙ ap (stepIn (now s) n) (f .1 .1 ∙ e .1 .1)
 
   exits : (t : Step) (u : Val) → t ≡ found → ent 𝓤 (⋆ 𝓤 H A (‵ (S.the-row .own t (u ∷ [])) ∷ (‵ (flft κ q) ⊛ ‵ ftrue) ∷ ‵ Kept ∷ [])) (Post u)
   exits t u e =
@@ -164,21 +168,21 @@ module _ {M : Type 1} (𝓤 : URA M) (H : Heap 𝓤) (A : Atoms 𝓤) (W : Given
         move ! (10 ∷ []) $ use1 W (raw (Opened 𝓤 H A mem run .pre to-opened) ⊛ ‵ Kept) goes-opened $ split ! $
         calls-at ! fm (Opened 𝓤 H A mem run) known-opened to-opened (and-then ! (load ! (from ! (stop !)) (look ! 8 refl)) (no-more !)) (λ u.
         use1 W (later (some (λ (r : ListingReader). ((‵ (flft κ q) ⊛ ‵ ftrue) ⊛ ‵ (B (κ, tt) .own r (u ∷ []))) ⊛ raw (ensured 𝓤 H A opened.ended (opened.clauses 𝓤 H A mem run) (κ, tt) (s, tt) tt r)))) (id⊢ 𝓤 _) $ await ! tt $ pick ! (λ r.
-        split ! $ move ! (1 ∷ []) $ use1 W (raw (fact 𝓤 ((r .text ≡ s) × (r .at ≡ 0)))) (opened-said r) $ heard ! ((r .text ≡ s) × (r .at ≡ 0)) (λ e. split ! $ move ! (1 ∷ []) $
+        split ! $ move ! (1 ∷ []) $ use1 W (raw (fact 𝓤 ((r .text ≡ s) × ((r .at ≡ 0) × (r .refusal ≡ refusalOfText (now s)))))) (opened-said r) $ heard ! ((r .text ≡ s) × ((r .at ≡ 0) × (r .refusal ≡ refusalOfText (now s)))) (λ e. split ! $ move ! (1 ∷ []) $
         -- [what the struct owns; the token; what is kept; room for _4; …; room for _3; …; _2; …; _1; …; room for _0; …]
         peeks ! (B (κ, tt)) (Is (B (κ, tt))) (shows 𝓤 H A (B (κ, tt))) r (u ∷ []) (λ is.
         land ! (from ! (stop !)) (init ! 3 refl (LL.lawful (T.the-type αᵉ) (T′.the-laws αᵉ) 𝓤 H A W .typed r _ is .0)) $
         use2 W (raw (Moved 𝓤 H A mem run .pre (to-moved r u))) (goes-moved r u) $
         calls-at ! fm (Moved 𝓤 H A mem run) known-moved (to-moved r u) (and-then ! (load ! (from ! (stop !)) (look ! 2 refl)) (and-then ! (load ! (from ! (stop !)) (look ! 6 refl)) (no-more !))) (λ u₂.
         use1 W (later (some (λ (m : ListingReader). ((‵ (flft κ q) ⊛ ‵ ftrue) ⊛ ‵ (B (κ, tt) .own m (u₂ ∷ []))) ⊛ raw (ensured 𝓤 H A moved.ended (moved.clauses 𝓤 H A mem run) (κ, tt) (r, (n, tt)) tt m)))) (id⊢ 𝓤 _) $ await ! tt $ pick ! (λ m.
-        split ! $ move ! (1 ∷ []) $ use1 W (raw (fact 𝓤 ((m .text ≡ r .text) × (m .at ≡ n)))) (moved-said r m) $ heard ! ((m .text ≡ r .text) × (m .at ≡ n)) (λ f. split ! $ move ! (1 ∷ []) $
+        split ! $ move ! (1 ∷ []) $ use1 W (raw (fact 𝓤 ((m .text ≡ r .text) × ((m .at ≡ n) × (m .refusal ≡ r .refusal))))) (moved-said r m) $ heard ! ((m .text ≡ r .text) × ((m .at ≡ n) × (m .refusal ≡ r .refusal))) (λ f. split ! $ move ! (1 ∷ []) $
         -- [what the moved struct owns; the token; what is kept; _4; …; room for _3; …; _2; …; _1; …; room for _0; …]
         peeks ! (B (κ, tt)) (Is (B (κ, tt))) (shows 𝓤 H A (B (κ, tt))) m (u₂ ∷ []) (λ is₂.
         land ! (from ! (stop !)) (init ! 5 refl (LL.lawful (T.the-type αᵉ) (T′.the-laws αᵉ) 𝓤 H A W .typed m _ is₂ .0)) $
         use2 W (raw (Next 𝓤 H A mem run .pre (to-next m u₂))) (goes-next m u₂) $
         calls-at ! fm (Next 𝓤 H A mem run) known-next (to-next m u₂) (and-then ! (load ! (from ! (stop !)) (look ! 4 refl)) (no-more !)) (λ u₃.
         use1 W (later (some (λ (t : Step). ((‵ (flft κ q) ⊛ ‵ ftrue) ⊛ ‵ (S.the-row .own t (u₃ ∷ []))) ⊛ raw (ensured 𝓤 H A next.ended (next.clauses 𝓤 H A mem run) (κ, tt) (m, tt) tt t)))) (id⊢ 𝓤 _) $ await ! tt $ pick ! (λ t.
-        split ! $ move ! (1 ∷ []) $ use1 W (raw (fact 𝓤 (t ≡ stepAt (now (m .text)) (m .at)))) (next-said m t) $ heard ! (t ≡ stepAt (now (m .text)) (m .at)) (λ g. split ! $ move ! (1 ∷ []) $
+        split ! $ move ! (1 ∷ []) $ use1 W (raw (fact 𝓤 (t ≡ stepIn (now (m .text)) (m .at) (m .refusal)))) (next-said m t) $ heard ! (t ≡ stepIn (now (m .text)) (m .at) (m .refusal)) (λ g. split ! $ move ! (1 ∷ []) $
         -- [the result; the token; what is kept; _4; …; _3; …; _2; …; _1; …; room for _0; …]
         peeks ! S.the-row (Is S.the-row) (shows 𝓤 H A S.the-row) t (u₃ ∷ []) (λ is₃.
         land ! (from ! (stop !)) (init ! 11 refl (EL.lawful S.the-type S′.the-laws 𝓤 H A W tt .typed t _ is₃ .0)) $

@@ -1,10 +1,10 @@
 -- `units::group_of_unit` meets its contract. Assumes nothing.
-use mathlib.Core.Path.{sym, ap, _∙_}
-use mathlib.Core.List.{List}
+use Prim.Native.Nat.{_<_}
+use mathlib.Core.Path.{_∙_}
+use native.Mathlib.Omega.{arith}
 use denote.Ref.{now}
-use Prim.Native.Nat.{ℕ}
-use Rattle.rules.specs.Keyed.{find, orElse}
-use Rattle.register.proofs.Steps.{units-step, no-units}
+use Rattle.rules.specs.Keyed.{find}
+use Rattle.register.proofs.Steps.{no-units, place-short, group-step, none-step}
 use borrow.Author.Needs.{needs}
 use Rattle.units.proofs.group_of_unit.Statement.{statement}
 use Rattle.units.proofs.group_of_unit.Tie as tie
@@ -13,32 +13,63 @@ returns : tie.Need-returns
 unfolding find
 returns c = rw (no-units (now (c .before .before .args .register)) (c .if1 .taken))
 
-shared-slice-read-n : tie.Need-shared-slice-read-n
-shared-slice-read-n c = search needs
+shared-slice-read-wide : tie.Need-shared-slice-read-wide
+shared-slice-read-wide c = search needs
 
-sub-value-of : tie.Need-sub-value-of
-sub-value-of c = search needs
+wide-requires : tie.Need-wide-requires
+wide-requires c κs = search needs
 
-part-value-of-start : tie.Need-part-value-of-start
-part-value-of-start c = search needs
+sub-place-of : tie.Need-sub-place-of
+sub-place-of c = search needs
 
-part-value-of-end : tie.Need-part-value-of-end
-part-value-of-end c = search needs
+part-place-of-start : tie.Need-part-place-of-start
+part-place-of-start c = search needs
 
-value-of-requires : tie.Need-value-of-requires
-value-of-requires c κs = search needs
+part-place-of-end : tie.Need-part-place-of-end
+part-place-of-end c = search needs
+
+place-of-requires : tie.Need-place-of-requires
+place-of-requires c κs = search needs
+
+add-wide : tie.Need-add-wide
+add-wide c = search needs
+
+mul-wide : tie.Need-mul-wide
+mul-wide c = search needs
+
+shared-slice-read-wide-2 : tie.Need-shared-slice-read-wide-2
+shared-slice-read-wide-2 c =
+    let e = c .before .before .before .before .wide .ensures .0 in
+    let h : c .before .before .place-of .result < 256 = place-short (now (c .before .before .before .before .before .before .before .before .args .register)) (c .before .before .before .before .before .before .before .before .args .unit) (c .before .before .place-of .result) (c .before .before .before .before .before .before .if1 .left) (rw e at (c .before .before .place-of .ensures)) (rw e at (c .before .if2 .taken)) in
+    omega arith
+
+wide-requires-2 : tie.Need-wide-requires-2
+wide-requires-2 c κs = search needs
 
 returns-2 : tie.Need-returns-2
-returns-2 c = c .value-of .ensures ∙ ap (λ (z : List (ℕ × ℕ)). orElse 0 (find (c .before .before .before .before .before .args .unit) z)) (units-step (now (c .before .before .before .before .before .args .register)) (c .before .before .before .if1 .left))
+returns-2 c =
+    let e = c .before .before .before .before .before .wide .ensures .0 in
+    c .wide2 .ensures .0 ∙ group-step (now (c .before .before .before .before .before .before .before .before .before .args .register)) (c .before .before .before .before .before .before .before .before .before .args .unit) (c .before .before .before .place-of .result) (c .before .before .before .before .before .before .before .if1 .left) (rw e at (c .before .before .before .place-of .ensures)) (rw e at (c .before .before .if2 .taken))
+
+returns-3 : tie.Need-returns-3
+returns-3 c =
+    let e = c .before .before .before .wide .ensures .0 in
+    none-step (now (c .before .before .before .before .before .before .before .args .register)) (c .before .before .before .before .before .before .before .args .unit) (c .before .place-of .result) (c .before .before .before .before .before .if1 .left) (rw e at (c .before .place-of .ensures)) (rw e at (c .if2 .left))
 
 pub group-of-unit-spec : {M : Type 1} → statement M
 group-of-unit-spec =
     tie.close
     (tie.spec
     returns
-    shared-slice-read-n
-    sub-value-of
-    part-value-of-start
-    part-value-of-end
-    value-of-requires
-    returns-2)
+    shared-slice-read-wide
+    wide-requires
+    sub-place-of
+    part-place-of-start
+    part-place-of-end
+    place-of-requires
+    add-wide
+    mul-wide
+    shared-slice-read-wide-2
+    wide-requires-2
+    returns-2
+    returns-3)

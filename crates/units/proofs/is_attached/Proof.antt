@@ -1,10 +1,7 @@
 -- `units::is_attached` meets its contract. Assumes nothing.
-use mathlib.Core.Path.{sym, ap, _∙_}
-use mathlib.Core.List.{List}
 use denote.Ref.{now}
-use Prim.Native.Nat.{ℕ}
-use Rattle.rules.specs.Keyed.{find, isThere}
-use Rattle.register.proofs.Steps.{units-step, no-units}
+use Rattle.rules.specs.Keyed.{find}
+use Rattle.register.proofs.Steps.{no-units, attached-step}
 use borrow.Author.Needs.{needs}
 use Rattle.units.proofs.is_attached.Statement.{statement}
 use Rattle.units.proofs.is_attached.Tie as tie
@@ -13,32 +10,38 @@ returns : tie.Need-returns
 unfolding find
 returns c = rw (no-units (now (c .before .before .args .register)) (c .if1 .taken))
 
-shared-slice-read-n : tie.Need-shared-slice-read-n
-shared-slice-read-n c = search needs
+shared-slice-read-wide : tie.Need-shared-slice-read-wide
+shared-slice-read-wide c = search needs
 
-sub-is-there : tie.Need-sub-is-there
-sub-is-there c = search needs
+wide-requires : tie.Need-wide-requires
+wide-requires c κs = search needs
 
-part-is-there-start : tie.Need-part-is-there-start
-part-is-there-start c = search needs
+sub-place-of : tie.Need-sub-place-of
+sub-place-of c = search needs
 
-part-is-there-end : tie.Need-part-is-there-end
-part-is-there-end c = search needs
+part-place-of-start : tie.Need-part-place-of-start
+part-place-of-start c = search needs
 
-is-there-requires : tie.Need-is-there-requires
-is-there-requires c κs = search needs
+part-place-of-end : tie.Need-part-place-of-end
+part-place-of-end c = search needs
+
+place-of-requires : tie.Need-place-of-requires
+place-of-requires c κs = search needs
 
 returns-2 : tie.Need-returns-2
-returns-2 c = c .is-there .ensures ∙ ap (λ (z : List (ℕ × ℕ)). isThere (find (c .before .before .before .before .before .args .unit) z)) (units-step (now (c .before .before .before .before .before .args .register)) (c .before .before .before .if1 .left))
+returns-2 c =
+    let e = c .before .before .wide .ensures .0 in
+    rw e (attached-step (now (c .before .before .before .before .before .before .args .register)) (c .before .before .before .before .before .before .args .unit) (c .place-of .result) (c .before .before .before .before .if1 .left) (rw e at (c .place-of .ensures)))
 
 pub is-attached-spec : {M : Type 1} → statement M
 is-attached-spec =
     tie.close
     (tie.spec
     returns
-    shared-slice-read-n
-    sub-is-there
-    part-is-there-start
-    part-is-there-end
-    is-there-requires
+    shared-slice-read-wide
+    wide-requires
+    sub-place-of
+    part-place-of-start
+    part-place-of-end
+    place-of-requires
     returns-2)

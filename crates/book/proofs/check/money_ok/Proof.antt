@@ -1,55 +1,30 @@
--- `book::check::money_ok` meets its contract. Assumes nothing.
-use Prim.Native.Nat.{_≤_, _+_, _-_}
-use mathlib.Core.Path.{_≡_, refl}
-use lib.Dec.{leb}
-use lib.ListN.{getD}
-use Rattle.rules.specs.Limits.{topMoney}
-use Rattle.words.specs.Each.{allBelow, below-none, below-turn, below-end}
+use native.Mathlib.Omega.{arith}
+use mathlib.Core.Path.{sym}
+use denote.Ref.{now}
+use Rattle.book.specs.Joined.{above-ok}
 use borrow.Author.Needs.{needs}
 use Rattle.book.proofs.check.money_ok.Statement.{statement}
 use Rattle.book.proofs.check.money_ok.Tie as tie
+use Rattle.book.proofs.check.money_ok.Reads as reads
+use Rattle.book.proofs.check.money_ok.Lts as lts
+use Rattle.book.proofs.check.each_ok.Reads as each-ok-reads
+use Rattle.book.proofs.check.joined.Reads as joined-reads
 
-abbrev Inv-loop : tie.InvT-loop
-Inv-loop book n ok₀ j₀ ok j = (j ≤ n) × (ok ≡ allBelow j (λ k. leb (getD book (2 + k) 0) topMoney))
+-- src/check.rt:58:8
+joined-requires : tie.Need-joined-requires
+joined-requires c κs = search needs
 
-abbrev μ-loop : tie.MeasureT-loop
-μ-loop book n ok₀ j₀ ok j = n - j
+-- src/check.rt:59:9
+returns : tie.Need-returns
+returns c = sym (above-ok (now (c .before .before .before .args .book)) 2 (c .before .before .before .args .n) (c .before .joined .result) (c .before .joined .ensures) (omega arith))
 
-loop-holds : tie.Need-loop-holds Inv-loop μ-loop
-loop-holds c = (search needs, below-none _)
+-- src/check.rt:61:5
+each-ok-requires : tie.Need-each-ok-requires
+each-ok-requires c κs = search needs
 
-add-ok : tie.Need-add-ok Inv-loop μ-loop
-add-ok c = search needs
-
-mul-ok : tie.Need-mul-ok Inv-loop μ-loop
-mul-ok c = search needs
-
-shared-slice-read-ok : tie.Need-shared-slice-read-ok Inv-loop μ-loop
-shared-slice-read-ok c = search needs
-
-add-j : tie.Need-add-j Inv-loop μ-loop
-add-j c = search needs
-
-loop-less : tie.Need-loop-less Inv-loop μ-loop
-loop-less c = search needs
-
-loop-again : tie.Need-loop-again Inv-loop μ-loop
-loop-again c = (search needs, below-turn (c .before .before .loop .j) _ (c .before .before .loop .inv .1) refl)
-
-returns : tie.Need-returns Inv-loop μ-loop
-returns c = below-end (c .before .loop .j) _ _ (c .before .loop .inv .0) (c .loop-test .left) (c .before .loop .inv .1)
+-- src/check.rt:54:1
+returns-2 : tie.Need-returns-2
+returns-2 c = search needs
 
 pub money-ok-spec : {M : Type 1} → statement M
-money-ok-spec =
-    tie.close
-    (tie.spec
-    Inv-loop
-    μ-loop
-    loop-holds
-    add-ok
-    mul-ok
-    shared-slice-read-ok
-    add-j
-    loop-less
-    loop-again
-    returns)
+money-ok-spec = tie.close (tie.spec joined-requires returns each-ok-requires returns-2)

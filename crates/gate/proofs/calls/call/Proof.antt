@@ -84,7 +84,7 @@ same-length-3 c = search needs
 
 returns : tie.Need-returns
 unfolding step
-returns c = rw (c .before .before .before .before .before .before .before .c .given .1) (c .before .before .guarded-enrol .ensures)
+returns c = rw (c .before .before .before .before .before .before .before .before .before .c .given .1) (c .before .before .before .before .guarded-enrol .ensures)
 
 same-length-4 : tie.Need-same-length-4
 same-length-4 c = search needs

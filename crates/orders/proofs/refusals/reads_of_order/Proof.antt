@@ -3,12 +3,6 @@ use borrow.Author.Needs.{needs}
 use Rattle.orders.proofs.refusals.reads_of_order.Statement.{statement}
 use Rattle.orders.proofs.refusals.reads_of_order.Tie as tie
 
-group-of-unit-requires : tie.Need-group-of-unit-requires
-group-of-unit-requires c κs = search needs
-
-is-attached-requires : tie.Need-is-attached-requires
-is-attached-requires c κs = search needs
-
 own-in-force-of-requires : tie.Need-own-in-force-of-requires
 own-in-force-of-requires c κs = search needs
 
@@ -22,14 +16,12 @@ accepted-of-requires : tie.Need-accepted-of-requires
 accepted-of-requires c κs = search needs
 
 returns : tie.Need-returns
-returns c = rw (c .accepted-of .ensures, c .before .places-of .ensures, c .before .before .money-at .ensures, c .before .before .before .own-in-force-of .ensures, c .before .before .before .before .is-attached .ensures, c .before .before .before .before .before .group-of-unit .ensures)
+returns c = rw (c .accepted-of .ensures, c .before .places-of .ensures, c .before .before .money-at .ensures, c .before .before .before .own-in-force-of .ensures)
 
 pub reads-of-order-spec : {M : Type 1} → statement M
 reads-of-order-spec =
     tie.close
     (tie.spec
-    group-of-unit-requires
-    is-attached-requires
     own-in-force-of-requires
     money-at-requires
     places-of-requires

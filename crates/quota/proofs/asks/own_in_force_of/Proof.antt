@@ -4,15 +4,15 @@ use borrow.Author.Needs.{needs}
 use Rattle.quota.proofs.asks.own_in_force_of.Statement.{statement}
 use Rattle.quota.proofs.asks.own_in_force_of.Tie as tie
 
-group-at-requires : tie.Need-group-at-requires
-group-at-requires c κs = search needs
+quota-at-requires : tie.Need-quota-at-requires
+quota-at-requires c κs = search needs
 
 own-in-force-requires : tie.Need-own-in-force-requires
 own-in-force-requires c κs = search needs
 
 returns : tie.Need-returns
 unfolding ownInForce
-returns c = rw (c .own-in-force .ensures, c .before .before .group-at .ensures)
+returns c = rw (c .own-in-force .ensures, c .before .quota-at .ensures)
 
 pub own-in-force-of-spec : {M : Type 1} → statement M
-own-in-force-of-spec = tie.close (tie.spec group-at-requires own-in-force-requires returns)
+own-in-force-of-spec = tie.close (tie.spec quota-at-requires own-in-force-requires returns)
