@@ -50,7 +50,7 @@ use Rattle.claim.specs.QuotaSim as quotas
 use Rattle.claim.specs.OrderSums.{more-here}
 use Rattle.claim.specs.OrderSim as books
 use Rattle.claim.specs.Opening.{placesLent, openRefusal, freshRegister, freshBook, openRegister, openBook}
-use Rattle.claim.specs.Demand.{run, answersOf, opened, RowIs, BelowOwn, DemandBy, Demand, ThirdDemand}
+use Rattle.claim.specs.Demand.{run, answersOf, opened, RowIs, ownOf, Passes, DemandBy, Demand, ThirdDemand}
 
 -- a gate's memory stands for a history
 pub record Sim (N : ℕ) (h : History) (m : Memory) : Type 0 where
@@ -342,6 +342,46 @@ step-refusal N rule h m s c = ap (λ (a : Answer). a .refusal) (steps N rule h m
     go zero = refl
     go (suc r) = refl
 
+-- ---- buys: the history's list at a well-formed buy of an attached unit with a place free
+
+-- own quota in force, whether the rule lets the buy pass
+passing : (rule : Rule) (kind : ℕ) (own : Limit) (net : ℤ) (price : Mils) (quantity unit : ℕ) (money : Money) → isBuy kind ≡ true → inRange (Order unit kind price quantity) ≡ true → netOf money ≡ net
+    → (refusal (orderRules rule unit kind price quantity (record { attached = true; own = own; money = money; full = false })) ≡ 0) ↔ Passes rule own net (amount price quantity)
+unfolding orderRules stops
+passing rule kind Nothing net price quantity unit money b r n = (
+  (λ z. absurd (omega (arith, fifteen z))),
+  (λ z. let e = z .1 in let y : _≡_ {A = ℕ} 0 1 = cc in absurd (omega arith)),
+)
+  where
+    fifteen : refusal (orderRules rule unit kind price quantity (record { attached = true; own = Nothing; money = money; full = false })) ≡ 0 → _≡_ {A = ℕ} 15 0
+    fifteen z = rw (r, b) at z
+passing rule kind (At o) net price quantity unit money b r n = (
+  (λ z. (o, refl, pass (rw (r, b, n) at z))),
+  (λ z. back z),
+)
+  where
+    pass : _≡_ {A = ℕ} (pick (not (rule (milsOf o) net (amount price quantity))) 16 0) 0 → rule (milsOf o) net (amount price quantity) ≡ true
+    pass = go (rule (milsOf o) net (amount price quantity))
+      where
+        go : (t : Bool) → _≡_ {A = ℕ} (pick (not t) 16 0) 0 → t ≡ true
+        go true z = refl
+        go false z = absurd (omega arith)
+
+    back : Passes rule (At o) net (amount price quantity) → refusal (orderRules rule unit kind price quantity (record { attached = true; own = At o; money = money; full = false })) ≡ 0
+    back z =
+        let e = z .1 in
+        let k : o ≡ z .0 = cc in
+        let y : rule (milsOf o) net (amount price quantity) ≡ true = rw k (z .2) in
+        rw (r, b, n, y)
+
+buy-passes : (N : ℕ) (rule : Rule) (h : History) (unit kind : ℕ) (price : Mils) (quantity : ℕ) → isBuy kind ≡ true → inRange (Order unit kind price quantity) ≡ true → isAttached h unit ≡ true → length (h .orders) < N
+    → (refusalOf N rule h (Order unit kind price quantity) ≡ 0) ↔ Passes rule (ownOf h unit) (netIn h (groupOf h unit)) (amount price quantity)
+unfolding refusals
+buy-passes N rule h unit kind price quantity b r t l =
+    rw (t, lt-leb N (length (h .orders)) l)
+    (passing rule kind (ownOf h unit) (netIn h (groupOf h unit)) price quantity unit (moneyOf h (groupOf h unit)) b r refl)
+
+-- what holds by any rule
 demand-by : (rule : Rule) (N : ℕ) (m : Memory) → Sim N atOpening m → (cs : List Call) → DemandBy rule N m cs
 demand-by rule N m s cs =
     let t = run-sim N rule cs atOpening m s in
@@ -351,49 +391,16 @@ demand-by rule N m s cs =
       rows = λ g l. row-is N (after N rule atOpening cs) (run rule m cs) t g l;
       never-one = λ before c rest e. λ z.
           never-unsound N rule (after N rule atOpening before) c (sym (step-refusal N rule (after N rule atOpening before) (run rule m before) (run-sim N rule before atOpening m s) c) ∙ z);
+      buys = λ before unit kind price quantity rest e b r t l.
+          rw (step-refusal N rule (after N rule atOpening before) (run rule m before) (run-sim N rule before atOpening m s) (Order unit kind price quantity))
+          (buy-passes N rule (after N rule atOpening before) unit kind price quantity b r t l);
     }
 
--- ---- buys: the history's list at a well-formed buy of an attached unit with a place free
-
--- own quota in force, whether the rule lets the buy pass
-passing : (kind : ℕ) (own : Limit) (net : ℤ) (price : Mils) (quantity unit : ℕ) (money : Money) → isBuy kind ≡ true → inRange (Order unit kind price quantity) ≡ true → netOf money ≡ net
-    → (refusal (orderRules shanghai unit kind price quantity (record { attached = true; own = own; money = money; full = false })) ≡ 0) ↔ ((o : Millions) × (own ≡ At o) × (ltZ net (pos ((milsOf o) .0)) ≡ true))
-unfolding orderRules stops shanghai
-passing kind Nothing net price quantity unit money b r n = (
-  (λ z. absurd (omega (arith, fifteen z))),
-  (λ z. let e = z .1 in let y : _≡_ {A = ℕ} 0 1 = cc in absurd (omega arith)),
-)
-  where
-    fifteen : refusal (orderRules shanghai unit kind price quantity (record { attached = true; own = Nothing; money = money; full = false })) ≡ 0 → _≡_ {A = ℕ} 15 0
-    fifteen z = rw (r, b) at z
-passing kind (At o) net price quantity unit money b r n = (
-  (λ z. (o, refl, pass (rw (r, b, n) at z))),
-  (λ z. back z),
-)
-  where
-    pass : _≡_ {A = ℕ} (pick (not (ltZ net (pos ((milsOf o) .0)))) 16 0) 0 → ltZ net (pos ((milsOf o) .0)) ≡ true
-    pass = go (ltZ net (pos ((milsOf o) .0)))
-      where
-        go : (t : Bool) → _≡_ {A = ℕ} (pick (not t) 16 0) 0 → t ≡ true
-        go true z = refl
-        go false z = absurd (omega arith)
-
-    back : ((o′ : Millions) × (At o ≡ At o′) × (ltZ net (pos ((milsOf o′) .0)) ≡ true)) → refusal (orderRules shanghai unit kind price quantity (record { attached = true; own = At o; money = money; full = false })) ≡ 0
-    back z =
-        let e = z .1 in
-        let k : o ≡ z .0 = cc in
-        let y : ltZ net (pos ((milsOf o) .0)) ≡ true = rw k (z .2) in
-        rw (r, b, n, y)
+-- ---- Shanghai: what an accepted buy leaves
 
 module _ (N : ℕ) (h : History) (unit kind : ℕ) (price : Mils) (quantity : ℕ) (b : isBuy kind ≡ true) where
-  buy-passes : inRange (Order unit kind price quantity) ≡ true → isAttached h unit ≡ true → length (h .orders) < N → (refusalOf N shanghai h (Order unit kind price quantity) ≡ 0) ↔ BelowOwn h unit
-  unfolding refusals
-  buy-passes r t l =
-      rw (t, lt-leb N (length (h .orders)) l)
-      (passing kind (inForce ((past.groupAt h (groupOf h unit)) .quota)) (netIn h (groupOf h unit)) price quantity unit (moneyOf h (groupOf h unit)) b r refl)
-
   -- an accepted buy: net before it was below the own quota
-  buy-below : (own : Millions) → refusalOf N shanghai h (Order unit kind price quantity) ≡ 0 → inForce ((past.groupAt h (groupOf h unit)) .quota) ≡ At own → ltZ (netIn h (groupOf h unit)) (pos ((milsOf own) .0)) ≡ true
+  buy-below : (own : Millions) → refusalOf N shanghai h (Order unit kind price quantity) ≡ 0 → ownOf h unit ≡ At own → ltZ (netIn h (groupOf h unit)) (pos ((milsOf own) .0)) ≡ true
   unfolding refusals orderRules stops shanghai
   buy-below own e k =
       let c = clear 1 (orderRules shanghai unit kind price quantity (orderReads N h unit)) (order-rises shanghai unit kind price quantity (orderReads N h unit)) e in
@@ -401,7 +408,7 @@ module _ (N : ℕ) (h : History) (unit kind : ℕ) (price : Mils) (quantity : �
       not-false (ltZ (netIn h (groupOf h unit)) (pos ((milsOf own) .0))) f
 
   -- and after it below the own quota and the order's amount
-  buy-crosses : (own : Millions) → refusalOf N shanghai h (Order unit kind price quantity) ≡ 0 → inForce ((past.groupAt h (groupOf h unit)) .quota) ≡ At own
+  buy-crosses : (own : Millions) → refusalOf N shanghai h (Order unit kind price quantity) ≡ 0 → ownOf h unit ≡ At own
       → ltZ (netIn (accept h (Order unit kind price quantity)) (groupOf h unit)) (pos ((milsOf own) .0 + (amount price quantity) .0)) ≡ true
   unfolding accept netOf when
   buy-crosses own e k =
@@ -431,9 +438,6 @@ demand rs bs ps o cs =
     let s = opened-sim rs bs ps o in
     record {
       either-market = demand-by shanghai (placesLent ps) (opened rs bs ps) s cs;
-      buys = λ before unit kind price quantity rest e b r t l.
-          let w = step-refusal (placesLent ps) shanghai (after (placesLent ps) shanghai atOpening before) (run shanghai (opened rs bs ps) before) (run-sim (placesLent ps) shanghai before atOpening (opened rs bs ps) s) (Order unit kind price quantity) in
-          rw w (buy-passes (placesLent ps) (after (placesLent ps) shanghai atOpening before) unit kind price quantity b r t l);
       crossing = λ before unit kind price quantity rest own e b z k.
           let H : History = after (placesLent ps) shanghai atOpening before in
           let w = step-refusal (placesLent ps) shanghai (after (placesLent ps) shanghai atOpening before) (run shanghai (opened rs bs ps) before) (run-sim (placesLent ps) shanghai before atOpening (opened rs bs ps) s) (Order unit kind price quantity) in

@@ -3,3 +3,4 @@ pub mod Laws
 pub mod Chunks
 pub mod Whole
 pub mod Pieces
+pub mod Examples

@@ -98,6 +98,20 @@ rowOf rs bs ps group = unlessRefused (rowRefusal rs bs ps group) (rowAt rs bs gr
 
 -- laws
 
+-- "group number 0 to 63": a row of group 64 is refused by 2, one of group 63 that is not enrolled by 6, and neither where it is
+pub row-numbers : (rs bs ps : List ℕ) → hostOk rs bs ps ≡ true → isEnrolled rs 64 ≡ false → isEnrolled rs 63 ≡ false → (rowRefusal rs bs ps 64 ≡ 2) × (rowRefusal rs bs ps 63 ≡ 6)
+unfolding rowRefusal
+row-numbers rs bs ps h e f = (rw h, rw (h, f))
+
+pub row-given : (rs bs ps : List ℕ) → hostOk rs bs ps ≡ true → isEnrolled rs 63 ≡ true → rowRefusal rs bs ps 63 ≡ 0
+unfolding rowRefusal
+row-given rs bs ps h e = rw (h, e)
+
+-- "lengths, N and figures first": 1 before 2 and 6
+pub row-unsound : (rs bs ps : List ℕ) (group : ℕ) → hostOk rs bs ps ≡ false → rowRefusal rs bs ps group ≡ 1
+unfolding rowRefusal
+row-unsound rs bs ps group h = rw h
+
 -- sign and size are the signed net
 abbrev pub signed : Net → ℤ
 signed n = cond (n .below) (negsuc (n .size .0 - 1)) (pos (n .size .0))

@@ -1,3 +1,4 @@
 pub mod Runs
 pub mod FromOpening
 pub mod Corollaries
+pub mod Examples
