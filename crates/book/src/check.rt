@@ -9,6 +9,7 @@ ghost use Rattle.rules.specs.Limits.{topMoney};
 ghost use Rattle.words.specs.Each.{allBelow};
 ghost use Rattle.book.specs.Check.{bookOk, placeOk};
 ghost use Rattle.book.specs.Joined.{Above};
+ghost use Rattle.book.specs.Layout.{bookLength, moneyLength};
 use crate::layout::ACCEPTED;
 use crate::layout::BOOK;
 use crate::layout::FIRST_MONEY;
@@ -24,7 +25,7 @@ use rules::limits::smaller;
 
 // The first n words of money joined bit by bit: none of them is above it.
 fn joined(book: &[u64], n: usize) -> u64
-    requires { ⌜ (length (now book) ≡ 194) × (n ≤ 192) ⌝ }
+    requires { ⌜ (length (now book) ≡ bookLength) × (n ≤ moneyLength) ⌝ }
     ensures { λ r. ⌜ Above (now (book .entry)) 2 n r ⌝ }
 {
     let mut m: u64 = 0;
@@ -38,7 +39,7 @@ fn joined(book: &[u64], n: usize) -> u64
 
 // The first n words of money are at most L, one by one.
 fn each_ok(book: &[u64], n: usize) -> bool
-    requires { ⌜ (length (now book) ≡ 194) × (n ≤ 192) ⌝ }
+    requires { ⌜ (length (now book) ≡ bookLength) × (n ≤ moneyLength) ⌝ }
     ensures { λ r. ⌜ r ≡ allBelow n (λ j. leb (getD (now (book .entry)) (2 + j) 0) topMoney) ⌝ }
 {
     let mut ok = true;
@@ -52,7 +53,7 @@ fn each_ok(book: &[u64], n: usize) -> bool
 
 // The first n words of money are at most L. Where all of them joined are below 2^62, nothing else is looked at.
 fn money_ok(book: &[u64], n: usize) -> bool
-    requires { ⌜ (length (now book) ≡ 194) × (n ≤ 192) ⌝ }
+    requires { ⌜ (length (now book) ≡ bookLength) × (n ≤ moneyLength) ⌝ }
     ensures { λ r. ⌜ r ≡ allBelow n (λ j. leb (getD (now (book .entry)) (2 + j) 0) topMoney) ⌝ }
 {
     if joined(book, n) < 4_611_686_018_427_387_904 {

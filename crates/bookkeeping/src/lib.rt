@@ -4,6 +4,7 @@ ghost use Rattle.rules.specs.Sums.{when};
 ghost use Rattle.orders.specs.Booking.{amountInRange, moneyFits, booking};
 ghost use Rattle.orders.specs.Calls.{closedBook};
 use book::layout::ACCEPTED;
+use book::layout::CLEARED;
 use orders::booking::Booked;
 use rules::kinds::Money;
 use rules::limits::TOP_MONEY;
@@ -62,5 +63,5 @@ pub fn booked_if_fits(before: Money, after: Money) -> Booked
 pub fn close_orders(book: &mut [u64])
     ensures { λ _. ⌜ now (book .exit) ≡ closedBook (now (book .entry)) ⌝ }
 {
-    store(book, ACCEPTED, &[0u64; 193]);
+    store(book, ACCEPTED, &[0u64; CLEARED]);
 }

@@ -9,7 +9,7 @@ use Rattle.rules.specs.Codes.{callOf}
 use Rattle.rules.specs.declared.calls.Call.{Call}
 use Rattle.columns.specs.Column.{plainAt}
 use Rattle.columns.specs.declared.reading.Plain.{Plain}
-use Rattle.callfile.specs.Lines.{coded, fields, usedOrZero, isCall, lineOf, columnsFormed, lineFormed, callFrom, malformed, readLine}
+use Rattle.callfile.specs.Lines.{coded, fields, usedOrZero, isCall, lineOf, columnsFormed, lineFormed, callFrom, malformed, readLine, lineBytes}
 use Rattle.callfile.specs.declared.words.Words.{Words}
 use Rattle.callfile.specs.declared.reading.Line.{Line}
 
@@ -31,12 +31,12 @@ module _ (w : Words) where
 
 -- ---- a line
 
-pub line-long : (t : List ℕ) (r : Line) → (length t ≡ 38 → ⊥) → r ≡ malformed → r ≡ readLine t
+pub line-long : (t : List ℕ) (r : Line) → (length t ≡ lineBytes → ⊥) → r ≡ malformed → r ≡ readLine t
 unfolding readLine lineFormed
-line-long t r h e = rw (ne-eqb (length t) 38 h) e
+line-long t r h e = rw (ne-eqb (length t) lineBytes h) e
 
 -- its five columns, as they were read
-module _ (t : List ℕ) (p₀ p₁ p₂ p₃ p₄ : Plain) (w : Words) (k : Bool) (l : length t ≡ 38)
+module _ (t : List ℕ) (p₀ p₁ p₂ p₃ p₄ : Plain) (w : Words) (k : Bool) (l : length t ≡ lineBytes)
     (e₀ : p₀ ≡ plainAt t 0 2) (e₁ : p₁ ≡ plainAt t 2 9) (e₂ : p₂ ≡ plainAt t 11 9) (e₃ : p₃ ≡ plainAt t 20 9) (e₄ : p₄ ≡ plainAt t 29 9)
     (ew : w ≡ coded (p₀ .number) (p₁ .number) (p₂ .number) (p₃ .number) (p₄ .number)) (ek : k ≡ isCall w) where
   words-read : w ≡ lineOf t
@@ -45,7 +45,7 @@ module _ (t : List ℕ) (p₀ p₁ p₂ p₃ p₄ : Plain) (w : Words) (k : Bool
 
   formed-read : ((p₀ .formed && (p₁ .formed && (p₂ .formed && (p₃ .formed && p₄ .formed)))) && k) ≡ lineFormed t
   unfolding lineFormed columnsFormed
-  formed-read = rw (ek, words-read, e₀, e₁, e₂, e₃, e₄, eq-eqb (length t) 38 l)
+  formed-read = rw (ek, words-read, e₀, e₁, e₂, e₃, e₄, eq-eqb (length t) lineBytes l)
 
   pub line-bad : (r : Line) → not ((p₀ .formed && (p₁ .formed && (p₂ .formed && (p₃ .formed && p₄ .formed)))) && k) ≡ true → r ≡ malformed → r ≡ readLine t
   unfolding readLine

@@ -17,17 +17,17 @@ use Rattle.rules.specs.declared.calls.Answer.{Answer}
 use Rattle.columns.specs.Column.{column, fits, plainAt, part}
 use Rattle.columns.specs.Laws.{length-marked}
 use Rattle.columns.specs.Pastes.{plain-at-only, plain-at-back}
-use Rattle.callfile.specs.Lines.{coded, wordsOf, lineText, callText, answerText, wordsFit, callFits, fields, usedOrZero, isCall, lineOf, columnsFormed, lineFormed, callFrom, malformed, readLine}
+use Rattle.callfile.specs.Lines.{coded, wordsOf, lineText, callText, answerText, wordsFit, callFits, fields, usedOrZero, isCall, lineOf, columnsFormed, lineFormed, callFrom, malformed, readLine, callBytes, lineBytes}
 use Rattle.callfile.specs.declared.words.Words.{Words}
 use Rattle.callfile.specs.declared.reading.Line.{Line}
 
 -- ---- lengths
 
-pub length-line : (w : Words) → length (lineText w) ≡ 38
+pub length-line : (w : Words) → length (lineText w) ≡ lineBytes
 unfolding lineText
 length-line w = simp (length-append, length-marked)
 
-pub length-call : (call : Call) → length (callText call) ≡ 39
+pub length-call : (call : Call) → length (callText call) ≡ callBytes
 unfolding callText
 length-call call = simp (length-append, length-line)
 
@@ -189,13 +189,13 @@ line-back call h =
 
 -- ---- whatever is read is what is written for it
 
-whole-line : (t : List ℕ) → length t ≡ 38 → part t 0 2 ++ part t 2 9 ++ part t 11 9 ++ part t 20 9 ++ part t 29 9 ≡ t
+whole-line : (t : List ℕ) → length t ≡ lineBytes → part t 0 2 ++ part t 2 9 ++ part t 11 9 ++ part t 20 9 ++ part t 29 9 ≡ t
 whole-line t h =
     let s₁ : part t 0 2 ++ part t 2 9 ≡ take 11 t = sym (take-add 2 9 t) in
     let s₂ : take 11 t ++ part t 11 9 ≡ take 20 t = sym (take-add 11 9 t) in
     let s₃ : take 20 t ++ part t 20 9 ≡ take 29 t = sym (take-add 20 9 t) in
-    let s₄ : take 29 t ++ part t 29 9 ≡ take 38 t = sym (take-add 29 9 t) in
-    rw (s₁, s₂, s₃, s₄) (take-all 38 t (omega arith))
+    let s₄ : take 29 t ++ part t 29 9 ≡ take lineBytes t = sym (take-add 29 9 t) in
+    rw (s₁, s₂, s₃, s₄) (take-all lineBytes t (omega arith))
 
 record Read (t : List ℕ) : Type 0 where
   text : t ≡ lineText (lineOf t)
@@ -210,8 +210,8 @@ read t h =
     let p₂ : Bool = (plainAt t 11 9) .formed in
     let p₃ : Bool = (plainAt t 20 9) .formed in
     let p₄ : Bool = (plainAt t 29 9) .formed in
-    let f = both (eqb (length t) 38) ((p₀ && (p₁ && (p₂ && (p₃ && p₄)))) && isCall (lineOf t)) h in
-    let l : length t ≡ 38 = eqb-true (length t) 38 (f .0) in
+    let f = both (eqb (length t) lineBytes) ((p₀ && (p₁ && (p₂ && (p₃ && p₄)))) && isCall (lineOf t)) h in
+    let l : length t ≡ lineBytes = eqb-true (length t) lineBytes (f .0) in
     let g = both (p₀ && (p₁ && (p₂ && (p₃ && p₄)))) (isCall (lineOf t)) (f .1) in
     let g₀ = both p₀ (p₁ && (p₂ && (p₃ && p₄))) (g .0) in
     let g₁ = both p₁ (p₂ && (p₃ && p₄)) (g₀ .1) in

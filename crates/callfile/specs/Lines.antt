@@ -34,6 +34,13 @@ wordsOf Close = coded 11 0 0 0 0
 
 -- ---- what is written
 
+-- the bytes of a call line: "the code .. in 2 columns, four fields of 9"; and with its line feed
+abbrev pub lineBytes : ℕ
+lineBytes = 38
+
+abbrev pub callBytes : ℕ
+callBytes = 39
+
 -- "the code .. in 2 columns, four fields of 9"
 unfoldable pub lineText : Words → List ℕ
 lineText w = column 2 (w .code) ++ column 9 (w .first) ++ column 9 (w .second) ++ column 9 (w .third) ++ column 9 (w .fourth)
@@ -81,7 +88,7 @@ columnsFormed t =
     (plainAt t 0 2) .formed && ((plainAt t 2 9) .formed && ((plainAt t 11 9) .formed && ((plainAt t 20 9) .formed && (plainAt t 29 9) .formed)))
 
 unfoldable pub lineFormed : List ℕ → Bool
-lineFormed t = eqb (length t) 38 && (columnsFormed t && isCall (lineOf t))
+lineFormed t = eqb (length t) lineBytes && (columnsFormed t && isCall (lineOf t))
 
 abbrev pub callFrom : Words → Call
 callFrom w = callOf (w .code) (w .first) (w .second) (w .third) (w .fourth)
@@ -96,7 +103,7 @@ readLine t = pick (lineFormed t) (record { formed = true; call = callFrom (lineO
 -- ---- put into a buffer: the other bytes stay, and all of them where there is no room
 
 unfoldable pub callPut : List ℕ → ℕ → Call → List ℕ
-callPut d at call = pick (holds (length d) at 39 && callFits call) (paste d at (callText call) 39) d
+callPut d at call = pick (holds (length d) at callBytes && callFits call) (paste d at (callText call) callBytes) d
 
 unfoldable pub answerPut : List ℕ → ℕ → Answer → List ℕ
 answerPut d at answer = pick (holds (length d) at 10 && answerFits answer) (paste d at (answerText answer) 10) d

@@ -1,7 +1,7 @@
 -- The table of answers, the host's part: the openings that are proper, and refusal 1 for every figure of the gate and of a named place, below,
 -- at and above the ends of its range. Expected values are worked out from document 01. Cancelling order 0 is refused by 2 where the memory is
 -- sound, and by 1, which is smaller, where it is not.
-use Prim.Native.Nat.{ℕ, zero, suc, _+_, _*_}
+use Prim.Native.Nat.{ℕ, zero, suc, _+_, _*_, _-_}
 use mathlib.Core.Path.{_≡_, refl}
 use mathlib.Core.List.{List, [], _∷_, _++_}
 use lib.ListN.{replicate, set}
@@ -10,7 +10,7 @@ use Rattle.rules.specs.Quotas.{quotaDue, closedQuota}
 use Rattle.rules.specs.Orders.{isBuy, priceRule, worseFill, netOf, shanghai, stops}
 use Rattle.rules.specs.Lists.{enrolRules, attachRules, detachRules, regularRules, raiseRules, withdrawRules, ownQuotaRules, orderRules, fillRules, cancelRules}
 use Rattle.rules.specs.Keyed.{find}
-use Rattle.rules.specs.Sums.{when, total}
+use Rattle.rules.specs.Sums.{when, sumOver}
 use Rattle.rules.specs.declared.calls.Call.{Call}
 use Rattle.rules.specs.declared.calls.Call.the-variants.{Enrol, Attach, Detach, Regular, Raise, Withdraw, OwnQuota, Order, Fill, Cancel, Close}
 use Rattle.figures.specs.Places.{placeIn, pairs}
@@ -18,12 +18,12 @@ use Rattle.figures.specs.Figures.{standingOf, placeOf, sumOf, declaredFigures, 
 use Rattle.words.specs.Words.{splice}
 use Rattle.words.specs.Words as words
 use Rattle.words.specs.Each.{allBelow}
-use Rattle.register.specs.Layout.{atCode, atClass, atMaximum, atOwn, atHolder, atFigure, atStanding, atDeclarers, atQuotas, firstUnit, firstUnitGroup, figuresOf, groupOf, wordsOf, recordAt, putRecord, addGroup, isTaken, place, tab, putWords}
+use Rattle.register.specs.Layout.{atCode, atClass, atMaximum, atOwn, atHolder, atFigure, atStanding, atDeclarers, atQuotas, firstUnit, firstUnitGroup, figuresOf, groupOf, wordsOf, recordAt, putRecord, addGroup, isTaken, place, tab, putWords, registerLength}
 use Rattle.register.specs.Check.{recordOk, registerOk}
 use Rattle.quota.specs.Asks.{isSound, groupsEnrolled}
 use Rattle.quota.specs.Groups.{declaredGroup, raisedGroup, filedGroup, ownGroup, closedGroup}
 use Rattle.quota.specs.Calls.{enrolRefusal, enrolAnswer, enrolAfter, attachRefusal, attachAfter, detachRefusal, detachAfter, regularRefusal, regularAfter, raiseRefusal, raiseAfter, withdrawRefusal, withdrawAfter, ownQuotaRefusal, ownQuotaAfter, closedAt, closedBelow, closeRefusal, closeAfter}
-use Rattle.book.specs.Layout.{moneyBase, placeBase, putAccepted, moneyAt, putMoney, placeAt, putPlace, putOpen}
+use Rattle.book.specs.Layout.{moneyBase, placeBase, putAccepted, moneyAt, putMoney, placeAt, putPlace, putOpen, bookLength}
 use Rattle.book.specs.Check.{bookOk, placeOk}
 use Rattle.orders.specs.Host.{hostOk, namedOk}
 use Rattle.orders.specs.Booking.{moneyFits, bookedOrder, bookedFill, bookedCancel}
@@ -51,7 +51,7 @@ eleven =
 -- N = 4. Two groups: 0 the firm 1 with a figure of 8; 1 of class 3 with an emergency of 20, held by 11. A unit of group 0. Two orders of
 -- group 0: a limit buy of 10 at 500, and a limit sell of 10 at 500; open buys of 5,000.
 abbrev begun : Memory
-begun = run shanghai (opened (replicate 2_000 7) (replicate 194 7) (replicate 16 7)) (Enrol 1 1 ∷ Enrol 2 3 ∷ Regular 1 0 (millions 3) (millions 8) ∷ Raise 11 1 (millions 20) 0 ∷ Close ∷ [])
+begun = run shanghai (opened (replicate registerLength 7) (replicate bookLength 7) (replicate 16 7)) (Enrol 1 1 ∷ Enrol 2 3 ∷ Regular 1 0 (millions 3) (millions 8) ∷ Raise 11 1 (millions 20) 0 ∷ Close ∷ [])
 
 -- word k of group g in the register; a unit's two words; a total of group g in the book; word k of the place of an order
 abbrev wordOf : ℕ → ℕ → ℕ
@@ -130,11 +130,11 @@ Opens r b p n = openRefusal (replicate r 7) (replicate b 7) (replicate p 7) ≡ 
 
 pub record Answered : Type 0 where
   -- "The host lends N order places, 1 to 65,536", four words each
-  pub openings : Opens 2_000 194 0 1 × Opens 2_000 194 4 0 × Opens 2_000 194 8_192 0
+  pub openings : Opens registerLength bookLength 0 1 × Opens registerLength bookLength 4 0 × Opens registerLength bookLength 8_192 0
   -- not so many words, or a register or book of another length
-  pub no-openings : Opens 2_000 194 3 1 × Opens 2_000 194 5 1 × Opens 1_999 194 16 1 × Opens 2_001 194 16 1 × Opens 2_000 193 16 1 × Opens 2_000 195 16 1
+  pub no-openings : Opens registerLength bookLength 3 1 × Opens registerLength bookLength 5 1 × Opens (registerLength - 1) bookLength 16 1 × Opens (registerLength + 1) bookLength 16 1 × Opens registerLength (bookLength - 1) 16 1 × Opens registerLength (bookLength + 1) 16 1
   -- N = 65,536, and one more
-  pub top-opening : Opens 2_000 194 262_144 0 × Opens 2_000 194 262_148 1
+  pub top-opening : Opens registerLength bookLength 262_144 0 × Opens registerLength bookLength 262_148 1
   -- sound as it is: the word of group 0's code bears 1
   pub sound : InRegister (
       wordOf 0 atCode holds 1 ⇒ 2
@@ -298,7 +298,7 @@ pub record Answered : Type 0 where
   pub book-spoilt : AllAre 1 register (set book 1 5)
 
 pub answered : Answered
-unfolding expected registerAsked bookAsked placesAsked elevenAsked step run openRefusal openRegister openBook bookSound isSound groupsEnrolled hostOk namedOk bookOk placeOk recordOk registerOk allBelow enrolRefusal enrolAnswer enrolAfter attachRefusal attachAfter detachRefusal detachAfter regularRefusal regularAfter raiseRefusal raiseAfter withdrawRefusal withdrawAfter ownQuotaRefusal ownQuotaAfter closedAt closedBelow closeRefusal closeAfter declaredGroup raisedGroup filedGroup ownGroup closedGroup figuresOf groupOf wordsOf place tab putWords recordAt putRecord addGroup isTaken words.run splice standingOf placeOf sumOf declaredFigures withdrawnFigures placeIn pairs total when putAccepted moneyAt putMoney placeAt putPlace putOpen moneyFits bookedOrder bookedFill bookedCancel orderRefusal orderAnswer orderBook orderPlaces fillRefusal fillBook fillPlaces cancelRefusal cancelBook cancelPlaces closedBook milsOf isBuy priceRule worseFill netOf shanghai stops quotaDue closedQuota enrolRules attachRules detachRules regularRules raiseRules withdrawRules ownQuotaRules orderRules fillRules cancelRules find
+unfolding expected registerAsked bookAsked placesAsked elevenAsked step run openRefusal openRegister openBook bookSound isSound groupsEnrolled hostOk namedOk bookOk placeOk recordOk registerOk allBelow enrolRefusal enrolAnswer enrolAfter attachRefusal attachAfter detachRefusal detachAfter regularRefusal regularAfter raiseRefusal raiseAfter withdrawRefusal withdrawAfter ownQuotaRefusal ownQuotaAfter closedAt closedBelow closeRefusal closeAfter declaredGroup raisedGroup filedGroup ownGroup closedGroup figuresOf groupOf wordsOf place tab putWords recordAt putRecord addGroup isTaken words.run splice standingOf placeOf sumOf declaredFigures withdrawnFigures placeIn pairs sumOver when putAccepted moneyAt putMoney placeAt putPlace putOpen moneyFits bookedOrder bookedFill bookedCancel orderRefusal orderAnswer orderBook orderPlaces fillRefusal fillBook fillPlaces cancelRefusal cancelBook cancelPlaces closedBook milsOf isBuy priceRule worseFill netOf shanghai stops quotaDue closedQuota enrolRules attachRules detachRules regularRules raiseRules withdrawRules ownQuotaRules orderRules fillRules cancelRules find
 answered = record {
   openings = (refl, refl, refl);
   no-openings = (refl, refl, refl, refl, refl, refl);

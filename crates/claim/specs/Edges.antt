@@ -1,6 +1,6 @@
 -- "Edges to prove (E1 to E8)", proved together: a list of cases, and one theorem over it, `edges-hold`, about the gate opened over lent
 -- memory of any content with N = 4. Each case is carried over from the history by the third demand, and computed there.
-use Prim.{Unit, tt}
+use Prim.{tt}
 use Prim.Native.Nat.{ℕ}
 use mathlib.Core.Path.{_≡_, refl, sym, subst, _∙_}
 use mathlib.Core.Bool.{true}
@@ -15,7 +15,8 @@ use Rattle.rules.specs.Orders.{isBuy, priceRule, worseFill, netOf, shanghai, st
 use Rattle.rules.specs.Calls.{accepted, refused}
 use Rattle.rules.specs.Lists.{enrolRules, attachRules, detachRules, regularRules, raiseRules, withdrawRules, ownQuotaRules, orderRules, fillRules, cancelRules}
 use Rattle.rules.specs.Keyed.{find, put, without}
-use Rattle.rules.specs.Sums.{when, total}
+use Rattle.rules.specs.Every.{Every}
+use Rattle.rules.specs.Sums.{when, sumOver}
 use Rattle.rules.specs.declared.quotas.Limit.{Limit}
 use Rattle.rules.specs.declared.quotas.Limit.the-variants.{At}
 use Rattle.rules.specs.declared.kinds.Money.{Money}
@@ -26,19 +27,13 @@ use Rattle.history.specs.Past.{History, atOpening, filledMoney, openIn, boughtI
 use Rattle.history.specs.Past as past
 use Rattle.history.specs.Answers.{isTaken, refusals, numberGiven, answer}
 use Rattle.history.specs.Runs.{accept, next, after, answers}
-use Rattle.register.specs.Layout.{groupAt}
+use Rattle.register.specs.Layout.{groupAt, registerLength}
 use Rattle.quota.specs.Asks.{ownInForce}
-use Rattle.book.specs.Layout.{moneyAt}
+use Rattle.book.specs.Layout.{moneyAt, bookLength}
 use Rattle.claim.specs.Step.{Memory}
 use Rattle.claim.specs.Opening.{placesLent, openRefusal}
 use Rattle.claim.specs.Demand.{run, answersOf, opened, RowIs}
 use Rattle.claim.specs.Theorem.{demand}
-
--- of every element of a list
-module _ {A : Type 0} (P : A → Type 0) where
-  abbrev pub All : List A → Type 0
-  All [] = Unit {0}
-  All (x ∷ xs) = P x × All xs
 
 -- what a case says of a list of calls: all its answers; or, of a group after it, the maximum, the own quota in force, the money, the net
 pub data Case : Type 0 where
@@ -161,8 +156,8 @@ _&_ : {A B : Type 0} → A → B → A × B
 a & b = (a, b)
 
 -- computed on the history
-told : All (Told 4) edges
-unfolding answers answer after next numberGiven refusals accept isTaken find put without when total filledMoney openIn boughtIn soldIn moneyIn netOf shanghai stops milsOf isBuy priceRule worseFill quotaDue closedQuota enrolRules attachRules detachRules regularRules raiseRules withdrawRules ownQuotaRules orderRules fillRules cancelRules
+told : Every (Told 4) edges
+unfolding answers answer after next numberGiven refusals accept isTaken find put without when sumOver filledMoney openIn boughtIn soldIn moneyIn netOf shanghai stops milsOf isBuy priceRule worseFill quotaDue closedQuota enrolRules attachRules detachRules regularRules raiseRules withdrawRules ownQuotaRules orderRules fillRules cancelRules
 told =
     refl
     & refl
@@ -208,15 +203,15 @@ module _ (rs bs ps : List ℕ) (o : openRefusal rs bs ps ≡ 0) where
   carried (MoneyIs cs g money) t = row cs g (t .0) .money ∙ t .1
   carried (NetIs cs g net) t = row cs g (t .0) .net ∙ t .1
 
-  all-carried : (cases : List Case) → All (Told (placesLent ps)) cases → All (Holds (opened rs bs ps)) cases
+  all-carried : (cases : List Case) → Every (Told (placesLent ps)) cases → Every (Holds (opened rs bs ps)) cases
   all-carried [] t = tt
   all-carried (c ∷ cases) t = (carried c (t .0), all-carried cases (t .1))
 
 -- E1 to E8, over every lent memory with N = 4
-pub edges-hold : (rs bs ps : List ℕ) → openRefusal rs bs ps ≡ 0 → placesLent ps ≡ 4 → All (Holds (opened rs bs ps)) edges
-edges-hold rs bs ps o four = all-carried rs bs ps o edges (subst (λ N. All (Told N) edges) (sym four) told)
+pub edges-hold : (rs bs ps : List ℕ) → openRefusal rs bs ps ≡ 0 → placesLent ps ≡ 4 → Every (Holds (opened rs bs ps)) edges
+edges-hold rs bs ps o four = all-carried rs bs ps o edges (subst (λ N. Every (Told N) edges) (sym four) told)
 
 -- such memory can be lent, as of words 7: the opening of it is proper, and N is 4
-pub four-lent : (openRefusal (replicate 2_000 7) (replicate 194 7) (replicate 16 7) ≡ 0) × (placesLent (replicate 16 7) ≡ 4)
+pub four-lent : (openRefusal (replicate registerLength 7) (replicate bookLength 7) (replicate 16 7) ≡ 0) × (placesLent (replicate 16 7) ≡ 4)
 unfolding openRefusal
 four-lent = (refl, refl)

@@ -16,7 +16,7 @@ use Rattle.rules.specs.Quotas.{inForce}
 use Rattle.rules.specs.Orders.{isBuy, Rule}
 use Rattle.rules.specs.Refusals.{refusal}
 use Rattle.rules.specs.Lists.{orderRules, fillRules, cancelRules}
-use Rattle.rules.specs.Sums.{when, when-zero, total}
+use Rattle.rules.specs.Sums.{when, when-zero, sumOver}
 use Rattle.rules.specs.declared.money.Millions.{Millions}
 use Rattle.rules.specs.declared.money.Mils.{Mils}
 use Rattle.rules.specs.declared.kinds.Money.{Money}
@@ -29,7 +29,7 @@ use Rattle.history.specs.Answers as past
 use Rattle.history.specs.Runs.{withOrders, withOpen, changedOrder, ordered, filled, cancelled, accept}
 use Rattle.quota.specs.Asks as asks
 use Rattle.quota.specs.Promises.{groups-most}
-use Rattle.book.specs.Layout.{placesOf, acceptedOf, putAccepted, noMoney, moneyAt, putMoney, placeAt, putPlace, putOpen}
+use Rattle.book.specs.Layout.{placesOf, acceptedOf, putAccepted, noMoney, moneyAt, putMoney, placeAt, putPlace, putOpen, bookLength, clearedWords, placeWords}
 use Rattle.book.specs.Check.{placeOk}
 use Rattle.book.specs.Known.{InMoney, BookKnown, known-book, known-place}
 use Rattle.book.specs.Laws.{no-money-put, money-same, money-other, places-of-put, accepted-of-put, length-put-money, accepted-same, places-of-accepted, money-of-accepted, place-same, place-other, length-put-place, open-same, open-other, length-put-open, places-of-closed, accepted-of-closed, money-of-closed, known-put-money, known-put-accepted, known-places, known-closed}
@@ -40,12 +40,12 @@ use Rattle.orders.specs.Calls as calls
 use Rattle.orders.specs.Clear.{host-known, order-clear, fill-clear, cancel-clear}
 use Rattle.orders.specs.declared.booking.Booked.{Booked}
 use Rattle.claim.specs.Relation.{placeOf, OrderKnown, OrderSim}
-use Rattle.claim.specs.OrderSums.{total-bound, AllKnown, money-fits, known-fresh, known-filled, known-cancelled, known-among, all-append, all-set, open-part, filled-more, cancelled-same, more-here, more-else, moved-here, moved-else}
+use Rattle.claim.specs.OrderSums.{sum-over-bound, AllKnown, money-fits, known-fresh, known-filled, known-cancelled, known-among, all-append, all-set, open-part, filled-more, cancelled-same, more-here, more-else, moved-here, moved-else}
 
 -- ---- 6: no orders, and a book of zeros
 
 money-empty : (h : History) (g : ℕ) → h .orders ≡ [] → moneyOf h g ≡ noMoney
-unfolding moneyIn total
+unfolding moneyIn sumOver
 money-empty h g e = rw e
 
 pub empty-sim : (N : ℕ) (h : History) (bs ps : List ℕ) → h .orders ≡ [] → placesOf bs ≡ N → acceptedOf bs ≡ 0 → ((g : ℕ) → moneyAt bs g ≡ noMoney) → OrderSim N h bs ps
@@ -80,11 +80,11 @@ none-share n o k = rw (ne-eqb (o .group) n (λ e. omega (arith, k .group, e))) (
 money-none : (n : ℕ) (h : History) → AllKnown n (h .orders) → moneyOf h n ≡ noMoney
 unfolding moneyIn
 money-none n h a =
-    let b : total (openIn (inGroup n)) (h .orders) + total (boughtIn (inGroup n)) (h .orders) + total (soldIn (inGroup n)) (h .orders) ≤ length (h .orders) * 0 =
-    total-bound (openIn (inGroup n)) (boughtIn (inGroup n)) (soldIn (inGroup n)) (h .orders) noOrder 0 (λ i q. none-share n (getD (h .orders) i noOrder) (a i q)) in
-    let x : total (openIn (inGroup n)) (h .orders) ≡ 0 = omega arith in
-    let y : total (boughtIn (inGroup n)) (h .orders) ≡ 0 = omega arith in
-    let z : total (soldIn (inGroup n)) (h .orders) ≡ 0 = omega arith in
+    let b : sumOver (openIn (inGroup n)) (h .orders) + sumOver (boughtIn (inGroup n)) (h .orders) + sumOver (soldIn (inGroup n)) (h .orders) ≤ length (h .orders) * 0 =
+    sum-over-bound (openIn (inGroup n)) (boughtIn (inGroup n)) (soldIn (inGroup n)) (h .orders) noOrder 0 (λ i q. none-share n (getD (h .orders) i noOrder) (a i q)) in
+    let x : sumOver (openIn (inGroup n)) (h .orders) ≡ 0 = omega arith in
+    let y : sumOver (boughtIn (inGroup n)) (h .orders) ≡ 0 = omega arith in
+    let z : sumOver (soldIn (inGroup n)) (h .orders) ≡ 0 = omega arith in
     rw (x, y, z)
 
 -- a book whose first word is N, and every other word 0
@@ -95,9 +95,9 @@ after-first : (N n p : ℕ) → 1 ≤ p → getD (N ∷ replicate n 0) p 0 ≡ 0
 after-first N n zero h = absurd (omega arith)
 after-first N n (suc p) h = zeros n p
 
-pub opening-sim : (N : ℕ) (bs ps : List ℕ) → bs ≡ N ∷ replicate 193 0 → OrderSim N atOpening bs ps
+pub opening-sim : (N : ℕ) (bs ps : List ℕ) → bs ≡ N ∷ replicate clearedWords 0 → OrderSim N atOpening bs ps
 opening-sim N bs ps e =
-    opening-words N bs ps (ap placesOf e) (λ p h. ap (λ (z : List ℕ). getD z p 0) e ∙ after-first N 193 p h)
+    opening-words N bs ps (ap placesOf e) (λ p h. ap (λ (z : List ℕ). getD z p 0) e ∙ after-first N clearedWords p h)
 
 -- ---- 5: calls 1 to 7 leave the orders alone, and no group is lost
 
@@ -148,7 +148,7 @@ module _ (N : ℕ) (h : History) (bs ps : List ℕ) (s : OrderSim N h bs ps) whe
   own-quota-sim group quota = same-orders N h (accept h (OwnQuota group quota)) bs ps refl (simp length-set (omega arith)) s
 
   -- the close forgets every order, and zeroes every total
-  closed-sim : length bs ≡ 194 → OrderSim N (accept h Close) (calls.closedBook bs) ps
+  closed-sim : length bs ≡ bookLength → OrderSim N (accept h Close) (calls.closedBook bs) ps
   unfolding accept calls.closedBook
   closed-sim l = empty-sim N (accept h Close) (calls.closedBook bs) ps refl (places-of-closed bs l ∙ s .places) (accepted-of-closed bs l) (money-of-closed bs l)
 
@@ -291,8 +291,8 @@ module _ (N : ℕ) (h : History) (rs bs ps : List ℕ) (a : Asked h rs) (host : 
   book : BookKnown bs ps (asks.groupsEnrolled rs)
   book = (host-known rs bs ps host) .book
 
-  room : length ps ≡ 4 * N
-  room = book .places-length ∙ ap (λ (x : ℕ). 4 * x) (s .places)
+  room : length ps ≡ placeWords * N
+  room = book .places-length ∙ ap (λ (x : ℕ). placeWords * x) (s .places)
 
   -- ---- an order more
 

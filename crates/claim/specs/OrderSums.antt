@@ -14,7 +14,7 @@ use lib.Seq.{getD-set-same, getD-set-other, getD-append-seam}
 use Rattle.rules.specs.Limits.{topMoney, topPrice, topQuantity}
 use Rattle.rules.specs.Money.{mils, amount}
 use Rattle.rules.specs.Orders.{isBuy, isKind, priceRule}
-use Rattle.rules.specs.Sums.{when, when-add, when-zero, total, total-append, total-set}
+use Rattle.rules.specs.Sums.{when, when-add, when-zero, sumOver, sum-over-append, sum-over-set}
 use Rattle.rules.specs.declared.money.Mils.{Mils}
 use Rattle.rules.specs.declared.kinds.Money.{Money}
 use Rattle.words.specs.Each.{same}
@@ -28,18 +28,18 @@ use Rattle.claim.specs.Relation.{placeOf, OrderKnown}
 
 module _ {A : Type 0} where
   -- a part is at most the sum
-  pub total-part : (f : A → ℕ) (l : List A) (k : ℕ) (d : A) → k < length l → f (getD l k d) ≤ total f l
-  unfolding total
-  total-part f [] k d h = absurd (not-suc-le-zero h)
-  total-part f (y ∷ l) zero d h = omega arith
-  total-part f (y ∷ l) (suc k) d h = omega (arith, total-part f l k d (le-of-suc-le-suc h))
+  pub sum-over-part : (f : A → ℕ) (l : List A) (k : ℕ) (d : A) → k < length l → f (getD l k d) ≤ sumOver f l
+  unfolding sumOver
+  sum-over-part f [] k d h = absurd (not-suc-le-zero h)
+  sum-over-part f (y ∷ l) zero d h = omega arith
+  sum-over-part f (y ∷ l) (suc k) d h = omega (arith, sum-over-part f l k d (le-of-suc-le-suc h))
 
   -- three measures together
-  pub total-bound : (f g s : A → ℕ) (l : List A) (d : A) (c : ℕ) → ((k : ℕ) → k < length l → f (getD l k d) + g (getD l k d) + s (getD l k d) ≤ c)
-      → total f l + total g l + total s l ≤ length l * c
-  unfolding total
-  total-bound f g s [] d c h = omega arith
-  total-bound f g s (y ∷ l) d c h = omega (arith, h 0 (omega arith), total-bound f g s l d c (λ k q. h (suc k) (omega arith)))
+  pub sum-over-bound : (f g s : A → ℕ) (l : List A) (d : A) (c : ℕ) → ((k : ℕ) → k < length l → f (getD l k d) + g (getD l k d) + s (getD l k d) ≤ c)
+      → sumOver f l + sumOver g l + sumOver s l ≤ length l * c
+  unfolding sumOver
+  sum-over-bound f g s [] d c h = omega arith
+  sum-over-bound f g s (y ∷ l) d c h = omega (arith, h 0 (omega arith), sum-over-bound f g s l d c (λ k q. h (suc k) (omega arith)))
 
 when-most : (b : Bool) (x y : ℕ) → x ≤ y → when b x ≤ when b y
 unfolding when
@@ -65,24 +65,24 @@ share n w o k = go (belongs w o) (isBuy (o .kind))
     go true true = omega (arith, le, k .amount)
     go true false = omega (arith, le, k .amount)
 
-pub money-bound : (n : ℕ) (l : List Ordered) → AllKnown n l → (w : Part) → total (openIn w) l + total (boughtIn w) l + total (soldIn w) l ≤ length l * (topPrice * topQuantity)
-money-bound n l a w = total-bound (openIn w) (boughtIn w) (soldIn w) l noOrder (topPrice * topQuantity) (λ i q. share n w (getD l i noOrder) (a i q))
+pub money-bound : (n : ℕ) (l : List Ordered) → AllKnown n l → (w : Part) → sumOver (openIn w) l + sumOver (boughtIn w) l + sumOver (soldIn w) l ≤ length l * (topPrice * topQuantity)
+money-bound n l a w = sum-over-bound (openIn w) (boughtIn w) (soldIn w) l noOrder (topPrice * topQuantity) (λ i q. share n w (getD l i noOrder) (a i q))
 
 pub money-fits : (n : ℕ) (h : History) → AllKnown n (h .orders) → length (h .orders) ≤ 65_536 → (w : Part) → moneyFits (moneyIn h w) ≡ true
 unfolding moneyFits moneyIn
 money-fits n h a m w =
-    le-leb (total (openIn w) (h .orders) + total (boughtIn w) (h .orders) + total (soldIn w) (h .orders)) topMoney
+    le-leb (sumOver (openIn w) (h .orders) + sumOver (boughtIn w) (h .orders) + sumOver (soldIn w) (h .orders)) topMoney
     (omega (arith, money-bound n (h .orders) a w))
 
 -- ---- 2: what is known of an order is kept
 
 pub known-fresh : (n u k : ℕ) (p : Mils) (q g : ℕ) → g < n → isKind k ≡ true → priceRule k p ≡ true → q ≤ topQuantity → OrderKnown n (ordered u k p q g)
-unfolding filledMoney total
+unfolding filledMoney sumOver
 known-fresh n u k p q g a b c d = record { group = a; kind = b; priced = c; «open» = d; amount = omega arith }
 
 pub filled-more : (o : Ordered) (p : Mils) (q : ℕ) → filledMoney (filled p q o) ≡ filledMoney o + p .0 * q
 unfolding filledMoney
-filled-more o p q = total-append (λ f. (amount (f .price) (f .quantity)) .0) (o .fills) (record { price = p; quantity = q })
+filled-more o p q = sum-over-append (λ f. (amount (f .price) (f .quantity)) .0) (o .fills) (record { price = p; quantity = q })
 
 pub cancelled-same : (o : Ordered) → filledMoney (cancelled o) ≡ filledMoney o
 unfolding filledMoney
@@ -140,7 +140,7 @@ open-part h w i q z e m =
       arith,
       when-most (isBuy (o .kind)) (o .price .0 * q) (o .price .0 * o .«open») (mul-le-mul-left (o .price .0) m),
       open-here w o e,
-      total-part (openIn w) (h .orders) i noOrder z,
+      sum-over-part (openIn w) (h .orders) i noOrder z,
     )
 
 -- ---- how money moves
@@ -158,11 +158,11 @@ module _ (h : History) (u k : ℕ) (p : Mils) (q g : ℕ) where
   fresh-open w = refl
 
   fresh-bought : (w : Part) → boughtIn w fresh ≡ 0
-  unfolding boughtIn filledMoney total
+  unfolding boughtIn filledMoney sumOver
   fresh-bought w = simp when-zero
 
   fresh-sold : (w : Part) → soldIn w fresh ≡ 0
-  unfolding soldIn filledMoney total
+  unfolding soldIn filledMoney sumOver
   fresh-sold w = simp when-zero
 
   more-money : (w : Part) → moneyIn (withOrders h (h .orders ++ (fresh ∷ []))) w ≡ record { «open» = mils ((moneyIn h w) .«open» .0 + when (w u g) (when (isBuy k) (p .0 * q))); bought = (moneyIn h w) .bought; sold = (moneyIn h w) .sold }
@@ -170,11 +170,11 @@ module _ (h : History) (u k : ℕ) (p : Mils) (q g : ℕ) where
   more-money w =
       let l = h .orders in
       money-alike
-      (total (openIn w) (l ++ (fresh ∷ []))) (total (boughtIn w) (l ++ (fresh ∷ []))) (total (soldIn w) (l ++ (fresh ∷ [])))
-      (total (openIn w) l + when (w u g) (when (isBuy k) (p .0 * q))) (total (boughtIn w) l) (total (soldIn w) l)
-      (omega (arith, total-append (openIn w) l fresh, fresh-open w))
-      (omega (arith, total-append (boughtIn w) l fresh, fresh-bought w))
-      (omega (arith, total-append (soldIn w) l fresh, fresh-sold w))
+      (sumOver (openIn w) (l ++ (fresh ∷ []))) (sumOver (boughtIn w) (l ++ (fresh ∷ []))) (sumOver (soldIn w) (l ++ (fresh ∷ [])))
+      (sumOver (openIn w) l + when (w u g) (when (isBuy k) (p .0 * q))) (sumOver (boughtIn w) l) (sumOver (soldIn w) l)
+      (omega (arith, sum-over-append (openIn w) l fresh, fresh-open w))
+      (omega (arith, sum-over-append (boughtIn w) l fresh, fresh-bought w))
+      (omega (arith, sum-over-append (soldIn w) l fresh, fresh-sold w))
 
   -- a part that it belongs to, and one that it doesn't
   pub more-here : (w : Part) → w u g ≡ true → moneyIn (withOrders h (h .orders ++ (fresh ∷ []))) w ≡ record { «open» = mils ((moneyIn h w) .«open» .0 + when (isBuy k) (p .0 * q)); bought = (moneyIn h w) .bought; sold = (moneyIn h w) .sold }
@@ -184,9 +184,9 @@ module _ (h : History) (u k : ℕ) (p : Mils) (q g : ℕ) where
   pub more-else : (w : Part) → w u g ≡ false → moneyIn (withOrders h (h .orders ++ (fresh ∷ []))) w ≡ moneyIn h w
   unfolding when moneyIn
   more-else w d =
-      let e : total (openIn w) (h .orders) + 0 ≡ total (openIn w) (h .orders) = omega arith in
+      let e : sumOver (openIn w) (h .orders) + 0 ≡ sumOver (openIn w) (h .orders) = omega arith in
       (rw d at (more-money w))
-      ∙ money-alike (total (openIn w) (h .orders) + 0) (total (boughtIn w) (h .orders)) (total (soldIn w) (h .orders)) (total (openIn w) (h .orders)) (total (boughtIn w) (h .orders)) (total (soldIn w) (h .orders)) e refl refl
+      ∙ money-alike (sumOver (openIn w) (h .orders) + 0) (sumOver (boughtIn w) (h .orders)) (sumOver (soldIn w) (h .orders)) (sumOver (openIn w) (h .orders)) (sumOver (boughtIn w) (h .orders)) (sumOver (soldIn w) (h .orders)) e refl refl
 
 -- y off an order's open quantity, n left, x more money in its fills
 module _ (o : Ordered) (n y x : ℕ) (fs : List Filled) (less : o .«open» ≡ n + y) (more : filledMoney (withOpen o n fs) ≡ filledMoney o + x) where
@@ -218,13 +218,13 @@ module _ (h : History) (k n y x : ℕ) (fs : List Filled) (hk : k - 1 < length (
       let l = h .orders in
       let o : Ordered = orderAt h k in
       money-alike
-      (total (openIn w) (set l (k - 1) now)) (total (boughtIn w) (set l (k - 1) now)) (total (soldIn w) (set l (k - 1) now))
-      (total (openIn w) l - when (belongs w o) (when (isBuy (o .kind)) (o .price .0 * y)))
-      (total (boughtIn w) l + when (belongs w o) (when (isBuy (o .kind)) x))
-      (total (soldIn w) l + when (belongs w o) (when (not (isBuy (o .kind))) x))
-      (omega (arith, total-set (openIn w) l (k - 1) now noOrder hk, open-moved o n y x fs less more w))
-      (omega (arith, total-set (boughtIn w) l (k - 1) now noOrder hk, bought-moved o n y x fs less more w))
-      (omega (arith, total-set (soldIn w) l (k - 1) now noOrder hk, sold-moved o n y x fs less more w))
+      (sumOver (openIn w) (set l (k - 1) now)) (sumOver (boughtIn w) (set l (k - 1) now)) (sumOver (soldIn w) (set l (k - 1) now))
+      (sumOver (openIn w) l - when (belongs w o) (when (isBuy (o .kind)) (o .price .0 * y)))
+      (sumOver (boughtIn w) l + when (belongs w o) (when (isBuy (o .kind)) x))
+      (sumOver (soldIn w) l + when (belongs w o) (when (not (isBuy (o .kind))) x))
+      (omega (arith, sum-over-set (openIn w) l (k - 1) now noOrder hk, open-moved o n y x fs less more w))
+      (omega (arith, sum-over-set (boughtIn w) l (k - 1) now noOrder hk, bought-moved o n y x fs less more w))
+      (omega (arith, sum-over-set (soldIn w) l (k - 1) now noOrder hk, sold-moved o n y x fs less more w))
 
   pub moved-here : (w : Part) → belongs w (orderAt h k) ≡ true → moneyIn (changedOrder h k now) w ≡ record {
     «open» = mils ((moneyIn h w) .«open» .0 - when (isBuy ((orderAt h k) .kind)) ((orderAt h k) .price .0 * y));
@@ -238,8 +238,8 @@ module _ (h : History) (k n y x : ℕ) (fs : List Filled) (hk : k - 1 < length (
   unfolding when moneyIn
   moved-else w d =
       let l = h .orders in
-      let a : total (openIn w) l - 0 ≡ total (openIn w) l = omega arith in
-      let b : total (boughtIn w) l + 0 ≡ total (boughtIn w) l = omega arith in
-      let c : total (soldIn w) l + 0 ≡ total (soldIn w) l = omega arith in
+      let a : sumOver (openIn w) l - 0 ≡ sumOver (openIn w) l = omega arith in
+      let b : sumOver (boughtIn w) l + 0 ≡ sumOver (boughtIn w) l = omega arith in
+      let c : sumOver (soldIn w) l + 0 ≡ sumOver (soldIn w) l = omega arith in
       (rw d at (moved-money w))
-      ∙ money-alike (total (openIn w) l - 0) (total (boughtIn w) l + 0) (total (soldIn w) l + 0) (total (openIn w) l) (total (boughtIn w) l) (total (soldIn w) l) a b c
+      ∙ money-alike (sumOver (openIn w) l - 0) (sumOver (boughtIn w) l + 0) (sumOver (soldIn w) l + 0) (sumOver (openIn w) l) (sumOver (boughtIn w) l) (sumOver (soldIn w) l) a b c

@@ -11,7 +11,7 @@ use lib.IntN.{ℤ, pos}
 use lib.Signed.{ltZ}
 use lib.ListN.{length, getD, replicate, length-replicate}
 use Rattle.rules.specs.Tests.{pick, both, within-true}
-use Rattle.rules.specs.Sums.{when, total}
+use Rattle.rules.specs.Sums.{when, sumOver}
 use Rattle.rules.specs.Limits.{isPlaces}
 use Rattle.rules.specs.Money.{milsOf, amount}
 use Rattle.rules.specs.Quotas.{inForce}
@@ -38,9 +38,9 @@ use Rattle.quota.specs.Asks as asks
 use Rattle.quota.specs.Calls as quota
 use Rattle.quota.specs.Kept as kept
 use Rattle.book.specs.Check.{bookOk}
-use Rattle.book.specs.Layout.{acceptedOf}
+use Rattle.book.specs.Layout.{acceptedOf, bookLength, clearedWords, placeWords}
 use Rattle.book.specs.Known.{InMoney, known-book}
-use Rattle.register.specs.Layout.{groupCount}
+use Rattle.register.specs.Layout.{groupCount, registerLength}
 use Rattle.orders.specs.Host.{hostOk}
 use Rattle.orders.specs.Calls as orders
 use Rattle.orders.specs.Kept as booked
@@ -273,35 +273,35 @@ module _ (N : ℕ) (rule : Rule) where
 
 -- ---- the opening
 
-open-known : (rs bs ps : List ℕ) → openRefusal rs bs ps ≡ 0 → (eqb (length ps) (4 * placesLent ps) ≡ true) × (isPlaces (placesLent ps) ≡ true)
+open-known : (rs bs ps : List ℕ) → openRefusal rs bs ps ≡ 0 → (eqb (length ps) (placeWords * placesLent ps) ≡ true) × (isPlaces (placesLent ps) ≡ true)
 unfolding openRefusal
-open-known rs bs ps e = go (eqb (length rs) 2_000 && (eqb (length bs) 194 && places)) refl e
+open-known rs bs ps e = go (eqb (length rs) registerLength && (eqb (length bs) bookLength && places)) refl e
   where
     places : Bool
-    places = eqb (length ps) (4 * placesLent ps) && isPlaces (placesLent ps)
+    places = eqb (length ps) (placeWords * placesLent ps) && isPlaces (placesLent ps)
 
-    go : (t : Bool) → (eqb (length rs) 2_000 && (eqb (length bs) 194 && places)) ≡ t → pick t 0 UNSOUND ≡ 0 → (eqb (length ps) (4 * placesLent ps) ≡ true) × (isPlaces (placesLent ps) ≡ true)
+    go : (t : Bool) → (eqb (length rs) registerLength && (eqb (length bs) bookLength && places)) ≡ t → pick t 0 UNSOUND ≡ 0 → (eqb (length ps) (placeWords * placesLent ps) ≡ true) × (isPlaces (placesLent ps) ≡ true)
     go true q z =
-        let a = both (eqb (length rs) 2_000) (eqb (length bs) 194 && places) q in
-        let b = both (eqb (length bs) 194) places (a .1) in
-        both (eqb (length ps) (4 * placesLent ps)) (isPlaces (placesLent ps)) (b .1)
+        let a = both (eqb (length rs) registerLength) (eqb (length bs) bookLength && places) q in
+        let b = both (eqb (length bs) bookLength) places (a .1) in
+        both (eqb (length ps) (placeWords * placesLent ps)) (isPlaces (placesLent ps)) (b .1)
     go false q z = absurd (omega arith)
 
 none-in : (g : ℕ) → InMoney (moneyOf atOpening g)
-unfolding moneyIn total
+unfolding moneyIn sumOver
 none-in g = (omega arith, (omega arith, omega arith))
 
-fresh-host : (ps : List ℕ) (N : ℕ) → eqb (length ps) (4 * N) ≡ true → isPlaces N ≡ true → hostOk freshRegister (freshBook N) ps ≡ true
+fresh-host : (ps : List ℕ) (N : ℕ) → eqb (length ps) (placeWords * N) ≡ true → isPlaces N ≡ true → hostOk freshRegister (freshBook N) ps ≡ true
 unfolding hostOk
 fresh-host ps N e i =
     let w = within-true 1 65_536 N i in
     let z = books.opening-sim N (freshBook N) ps refl in
     rw (quotas.asks-sound atOpening freshRegister quotas.opening)
     (known-book (freshBook N) ps (asks.groupsEnrolled freshRegister) (record {
-      book-length = ap suc (length-replicate {A = ℕ} 193 0);
+      book-length = ap suc (length-replicate {A = ℕ} clearedWords 0);
       places-low = w .0;
       places-high = w .1;
-      places-length = eqb-true (length ps) (4 * N) e;
+      places-length = eqb-true (length ps) (placeWords * N) e;
       accepted-most = omega arith;
       money = λ g a b. rw (z .money g) (none-in g);
     }))

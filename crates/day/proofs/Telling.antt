@@ -19,7 +19,7 @@ use Rattle.rules.specs.declared.calls.Answer.{Answer}
 use Rattle.columns.specs.Pastes.{chain-on}
 use Rattle.columns.specs.Laws.{length-marked}
 use Rattle.claim.specs.Step.{Memory, Stepped, step}
-use Rattle.callfile.specs.Lines.{readLine, answerText, answerFits, answerPut}
+use Rattle.callfile.specs.Lines.{readLine, answerText, answerFits, answerPut, callBytes}
 use Rattle.callfile.specs.declared.reading.Line.{Line}
 use Rattle.day.specs.declared.Progress.{Progress}
 use Rattle.day.specs.Day.{lineStep, heldTo, printed, lineLength, isWhole, firstLine, behindLine, Told, noneTold, before, told, toldIn, Answered, restText, keptBytes}
@@ -350,7 +350,7 @@ module _ (used filled : ℕ) (d : List ℕ) where
   unfolding keptBytes
   kept-none h l = none-kept (rw (le-leb filled (length d) h) (omega arith))
 
-  pub kept-some : (n : ℕ) (d′ : List ℕ) → filled ≤ length d → n ≡ min (filled - used) 39 → d′ ≡ paste d 0 (drop used d) n
+  pub kept-some : (n : ℕ) (d′ : List ℕ) → filled ≤ length d → n ≡ min (filled - used) callBytes → d′ ≡ paste d 0 (drop used d) n
       → (n ≡ keptBytes used filled (length d)) × (d′ ≡ paste d 0 (drop used d) n)
   unfolding keptBytes
   kept-some n d′ h e p = (rw (le-leb filled (length d) h) e, p)

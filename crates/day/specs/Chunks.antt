@@ -15,7 +15,7 @@ use Rattle.rules.specs.Tests.{pick}
 use Rattle.rules.specs.Calls.{refused}
 use Rattle.rules.specs.Refusals.{MALFORMED}
 use Rattle.claim.specs.Step.{Memory, Stepped}
-use Rattle.callfile.specs.Lines.{columnsFormed, isCall, lineOf, lineFormed, readLine}
+use Rattle.callfile.specs.Lines.{columnsFormed, isCall, lineOf, lineFormed, readLine, callBytes, lineBytes}
 use Rattle.day.specs.Day.{lineStep, printed, lineLength, isWhole, firstLine, behindLine, Told, noneTold, before, told}
 
 -- ---- pieces
@@ -114,9 +114,9 @@ open-length (x ∷ a) b w = go (eqb x 10) (λ v. open-length a b v) w
         ap suc (ih (le-ltb (lineLength a) (length a) (omega (arith, l)))) ∙ sym (suc-add (length a) (lineLength b))
 
 -- a line of other than thirty-eight bytes says nothing
-pub long-malformed : (m : Memory) (line : List ℕ) → 39 ≤ length line → lineStep m line ≡ record { answer = refused MALFORMED; memory = m }
+pub long-malformed : (m : Memory) (line : List ℕ) → callBytes ≤ length line → lineStep m line ≡ record { answer = refused MALFORMED; memory = m }
 unfolding lineStep readLine lineFormed
-long-malformed m line h = rw (ne-eqb (length line) 38 (λ e. omega (arith, e))) refl
+long-malformed m line h = rw (ne-eqb (length line) lineBytes (λ e. omega (arith, e))) refl
 
 module _ (a b : List ℕ) (w : isWhole a ≡ false) where
   pub whole-later : isWhole (a ++ b) ≡ isWhole b
@@ -148,7 +148,7 @@ pub record SameTold (r s : Told) : Type 0 where
   pub memory : r .memory ≡ s .memory
 
 -- SECOND LAW: two beginnings of a line, each too long and without line feed, are told alike
-pub long-alike : (k : ℕ) (m : Memory) (a a′ b : List ℕ) → isWhole a ≡ false → isWhole a′ ≡ false → 39 ≤ length a → 39 ≤ length a′ → SameTold (told k m (a ++ b)) (told k m (a′ ++ b))
+pub long-alike : (k : ℕ) (m : Memory) (a a′ b : List ℕ) → isWhole a ≡ false → isWhole a′ ≡ false → callBytes ≤ length a → callBytes ≤ length a′ → SameTold (told k m (a ++ b)) (told k m (a′ ++ b))
 unfolding told
 long-alike zero m a a′ b w w′ h h′ = record { lines = refl; text = refl; memory = refl }
 long-alike (suc k) m a a′ b w w′ h h′ = go (isWhole b) refl
@@ -156,7 +156,7 @@ long-alike (suc k) m a a′ b w w′ h h′ = go (isWhole b) refl
     skipped : Stepped
     skipped = record { answer = refused MALFORMED; memory = m }
 
-    one : (x : List ℕ) → isWhole x ≡ false → 39 ≤ length x → isWhole b ≡ true → told (suc k) m (x ++ b) ≡ before skipped (lineLength (x ++ b)) (told k m (behindLine b))
+    one : (x : List ℕ) → isWhole x ≡ false → callBytes ≤ length x → isWhole b ≡ true → told (suc k) m (x ++ b) ≡ before skipped (lineLength (x ++ b)) (told k m (behindLine b))
     one x v l e =
         let s : lineStep m (firstLine (x ++ b)) ≡ skipped = long-malformed m (firstLine (x ++ b)) (omega (arith, l, first-later x b v)) in
         first-told k m (x ++ b) (whole-later x b v ∙ e)
@@ -190,5 +190,5 @@ open-take n a h w = go (isWhole (take n a)) refl
     go false e = e
 
 -- so thirty-nine bytes of an unfinished line are as good as all of it
-pub cut-alike : (k : ℕ) (m : Memory) (a b : List ℕ) → isWhole a ≡ false → 39 ≤ length a → SameTold (told k m (a ++ b)) (told k m (take 39 a ++ b))
-cut-alike k m a b w h = long-alike k m a (take 39 a) b w (open-take 39 a h w) h (omega (arith, length-take-le 39 a h))
+pub cut-alike : (k : ℕ) (m : Memory) (a b : List ℕ) → isWhole a ≡ false → callBytes ≤ length a → SameTold (told k m (a ++ b)) (told k m (take callBytes a ++ b))
+cut-alike k m a b w h = long-alike k m a (take callBytes a) b w (open-take callBytes a h w) h (omega (arith, length-take-le callBytes a h))

@@ -15,7 +15,7 @@ use Rattle.rules.specs.Refusals.{MALFORMED}
 use Rattle.rules.specs.declared.calls.Answer.{Answer}
 use Rattle.claim.specs.Step.{Memory, Stepped, step}
 use Rattle.day.specs.declared.Progress.{Progress}
-use Rattle.callfile.specs.Lines.{readLine, answerText}
+use Rattle.callfile.specs.Lines.{readLine, answerText, callBytes}
 
 -- a line without its line feed: its call's answer and the memory after it; "A malformed line .. prints 21 with 0 and is skipped"
 unfoldable pub lineStep : Memory → List ℕ → Stepped
@@ -82,4 +82,4 @@ restText rest out = pick (leb 1 rest && leb 10 (length out)) (printed (refused M
 
 -- how many bytes of an unfinished line are kept for the next reading: all, or thirty-nine, which are too many for a call line already
 unfoldable pub keptBytes : ℕ → ℕ → ℕ → ℕ
-keptBytes used filled room = pick (leb filled room) (min (filled - used) 39) 0
+keptBytes used filled room = pick (leb filled room) (min (filled - used) callBytes) 0

@@ -11,6 +11,7 @@ use lib.Seq.{length-take-le}
 use Rattle.rules.specs.Tests.{pick}
 use Rattle.claim.specs.Step.{Memory, Stepped}
 use Rattle.day.specs.Day.{lineStep, lineLength, isWhole, firstLine, behindLine, Told, noneTold, before, told, keptBytes}
+use Rattle.callfile.specs.Lines.{callBytes}
 
 -- the lines told are bytes of the text
 pub told-used : (n : ℕ) (m : Memory) (t : List ℕ) → (told n m t) .used ≤ length t
@@ -37,6 +38,6 @@ pub kept-within : (used filled room kept : ℕ) → kept ≡ keptBytes used fill
 unfolding keptBytes
 kept-within used filled room kept p = go (leb filled room) refl p
   where
-    go : (b : Bool) → leb filled room ≡ b → kept ≡ pick b (min (filled - used) 39) 0 → kept ≤ room
+    go : (b : Bool) → leb filled room ≡ b → kept ≡ pick b (min (filled - used) callBytes) 0 → kept ≤ room
     go true e q = omega (arith, leb-true filled room e, q)
     go false e q = omega (arith, q)

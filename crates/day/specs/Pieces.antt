@@ -17,6 +17,7 @@ use Rattle.day.specs.Day.{lineStep, printed, lineLength, isWhole, firstL
 use Rattle.day.specs.Laws.{told-used}
 use Rattle.day.specs.Chunks.{joined, first-told, long-malformed, whole-later, first-later, behind-later, told-pieces, cut-alike, open-take}
 use Rattle.day.specs.Whole.{toldAll, behindLast, lastText, Printed, day, dayText, after, inPieces, joinedUp}
+use Rattle.callfile.specs.Lines.{callBytes}
 
 -- ---- how many turns are enough
 
@@ -104,7 +105,7 @@ long-last : (t : List ℕ) → 1 ≤ length t → lastText t ≡ malformed
 unfolding malformed
 long-last t h = rw (le-leb 1 (length t) h)
 
-left-of : (k : ℕ) (m : Memory) (x b : List ℕ) → isWhole x ≡ false → 39 ≤ length x → lastText (drop ((told k m (x ++ b)) .used) (x ++ b)) ≡ leftText k m b
+left-of : (k : ℕ) (m : Memory) (x b : List ℕ) → isWhole x ≡ false → callBytes ≤ length x → lastText (drop ((told k m (x ++ b)) .used) (x ++ b)) ≡ leftText k m b
 unfolding told leftText
 left-of zero m x b w h = long-last (x ++ b) (omega (arith, length-append x b))
 left-of (suc k) m x b w h = go (isWhole b) refl
@@ -144,21 +145,21 @@ dayOf t r = record { text = r .text ++ lastText (drop (r .used) t); memory = r .
 same-printed : (a a′ b b′ : List ℕ) (m m′ : Memory) → a ≡ a′ → b ≡ b′ → m ≡ m′ → _≡_ {A = Printed} (record { text = a ++ b; memory = m }) (record { text = a′ ++ b′; memory = m′ })
 same-printed a a′ b b′ m m′ e f g = rw (e, f, g) refl
 
-day-cut : (m : Memory) (t c : List ℕ) → isWhole t ≡ false → day m (take 39 t ++ c) ≡ day m (t ++ c)
-day-cut m t c w = go (leb 39 (length t)) refl
+day-cut : (m : Memory) (t c : List ℕ) → isWhole t ≡ false → day m (take callBytes t ++ c) ≡ day m (t ++ c)
+day-cut m t c w = go (leb callBytes (length t)) refl
   where
-    go : (b : Bool) → leb 39 (length t) ≡ b → day m (take 39 t ++ c) ≡ day m (t ++ c)
+    go : (b : Bool) → leb callBytes (length t) ≡ b → day m (take callBytes t ++ c) ≡ day m (t ++ c)
     go true e =
-        let h : 39 ≤ length t = leb-true 39 (length t) e in
-        let l : length (take 39 t) ≡ 39 = length-take-le 39 t h in
+        let h : callBytes ≤ length t = leb-true callBytes (length t) e in
+        let l : length (take callBytes t) ≡ callBytes = length-take-le callBytes t h in
         let n : ℕ = length (t ++ c) in
         let s = cut-alike n m t c w h in
-        let f : told n m (take 39 t ++ c) ≡ toldAll m (take 39 t ++ c) = told-enough n m (take 39 t ++ c) (omega (arith, length-append (take 39 t) c, length-append t c)) in
-        let p : lastText (drop ((told n m (take 39 t ++ c)) .used) (take 39 t ++ c)) ≡ lastText (drop ((told n m (t ++ c)) .used) (t ++ c)) =
-        left-of n m (take 39 t) c (open-take 39 t h w) (omega (arith, l)) ∙ sym (left-of n m t c w h) in
-        ap (dayOf (take 39 t ++ c)) (sym f)
-        ∙ same-printed ((told n m (take 39 t ++ c)) .text) ((told n m (t ++ c)) .text) (lastText (drop ((told n m (take 39 t ++ c)) .used) (take 39 t ++ c))) (lastText (drop ((told n m (t ++ c)) .used) (t ++ c))) ((told n m (take 39 t ++ c)) .memory) ((told n m (t ++ c)) .memory) (sym (s .text)) p (sym (s .memory))
-    go false e = let h : length t ≤ 39 = omega (arith, leb-false 39 (length t) e) in ap (λ (z : List ℕ). day m (z ++ c)) (take-all 39 t h)
+        let f : told n m (take callBytes t ++ c) ≡ toldAll m (take callBytes t ++ c) = told-enough n m (take callBytes t ++ c) (omega (arith, length-append (take callBytes t) c, length-append t c)) in
+        let p : lastText (drop ((told n m (take callBytes t ++ c)) .used) (take callBytes t ++ c)) ≡ lastText (drop ((told n m (t ++ c)) .used) (t ++ c)) =
+        left-of n m (take callBytes t) c (open-take callBytes t h w) (omega (arith, l)) ∙ sym (left-of n m t c w h) in
+        ap (dayOf (take callBytes t ++ c)) (sym f)
+        ∙ same-printed ((told n m (take callBytes t ++ c)) .text) ((told n m (t ++ c)) .text) (lastText (drop ((told n m (take callBytes t ++ c)) .used) (take callBytes t ++ c))) (lastText (drop ((told n m (t ++ c)) .used) (t ++ c))) ((told n m (take callBytes t ++ c)) .memory) ((told n m (t ++ c)) .memory) (sym (s .text)) p (sym (s .memory))
+    go false e = let h : length t ≤ callBytes = omega (arith, leb-false callBytes (length t) e) in ap (λ (z : List ℕ). day m (z ++ c)) (take-all callBytes t h)
 
 -- ---- some lines of a text, those left of it, and what comes behind it
 
@@ -198,12 +199,12 @@ module _ (n : ℕ) (m : Memory) (x c : List ℕ) where
 
 -- ---- all pieces
 
-kept-open : (t : List ℕ) → isWhole t ≡ false → isWhole (take 39 t) ≡ false
-kept-open t w = go (leb 39 (length t)) refl
+kept-open : (t : List ℕ) → isWhole t ≡ false → isWhole (take callBytes t) ≡ false
+kept-open t w = go (leb callBytes (length t)) refl
   where
-    go : (b : Bool) → leb 39 (length t) ≡ b → isWhole (take 39 t) ≡ false
-    go true e = open-take 39 t (leb-true 39 (length t) e) w
-    go false e = let h : length t ≤ 39 = omega (arith, leb-false 39 (length t) e) in ap isWhole (take-all 39 t h) ∙ w
+    go : (b : Bool) → leb callBytes (length t) ≡ b → isWhole (take callBytes t) ≡ false
+    go true e = open-take callBytes t (leb-true callBytes (length t) e) w
+    go false e = let h : length t ≤ callBytes = omega (arith, leb-false callBytes (length t) e) in ap isWhole (take-all callBytes t h) ∙ w
 
 pieces-behind : (ps : List (List ℕ)) (m : Memory) (kept : List ℕ) → isWhole kept ≡ false → inPieces m kept ps ≡ day m (kept ++ joinedUp ps)
 unfolding inPieces joinedUp first left
@@ -212,7 +213,7 @@ pieces-behind (p ∷ ps) m kept w =
     let r : Told = toldAll m (kept ++ p) in
     let rest : List ℕ = behindLast m (kept ++ p) in
     let v : isWhole rest ≡ false = none-left (length (kept ++ p)) m (kept ++ p) (omega arith) in
-    ap (after r) (pieces-behind ps (r .memory) (take 39 rest) (kept-open rest v) ∙ day-cut (r .memory) rest (joinedUp ps) v)
+    ap (after r) (pieces-behind ps (r .memory) (take callBytes rest) (kept-open rest v) ∙ day-cut (r .memory) rest (joinedUp ps) v)
     ∙ sym (day-joined (length (kept ++ p)) m (kept ++ p) (joinedUp ps))
     ∙ ap (day m) (append-assoc kept p (joinedUp ps))
 

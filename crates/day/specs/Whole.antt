@@ -9,6 +9,7 @@ use Rattle.rules.specs.Calls.{refused}
 use Rattle.rules.specs.Refusals.{MALFORMED}
 use Rattle.claim.specs.Step.{Memory}
 use Rattle.day.specs.Day.{printed, Told, told}
+use Rattle.callfile.specs.Lines.{callBytes}
 
 -- ---- the whole input
 
@@ -45,7 +46,7 @@ after r p = record { text = r .text ++ p .text; memory = p .memory }
 
 unfoldable pub inPieces : Memory → List ℕ → List (List ℕ) → Printed
 inPieces m kept [] = record { text = lastText kept; memory = m }
-inPieces m kept (p ∷ ps) = after (toldAll m (kept ++ p)) (inPieces ((toldAll m (kept ++ p)) .memory) (take 39 (behindLast m (kept ++ p))) ps)
+inPieces m kept (p ∷ ps) = after (toldAll m (kept ++ p)) (inPieces ((toldAll m (kept ++ p)) .memory) (take callBytes (behindLast m (kept ++ p))) ps)
 
 -- the pieces one behind the other
 unfoldable pub joinedUp : List (List ℕ) → List ℕ

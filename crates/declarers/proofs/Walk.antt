@@ -9,7 +9,7 @@ use borrow.Author.Tests.{eq-eqb, ne-eqb, leb-true, leb-false}
 use lib.Dec.{leb}
 use lib.ListN.{length, getD, drop, take, set, drop-of-length-le, length-append, length-drop}
 use lib.Seq.{drop-cons, length-take-le, getD-take, getD-drop, take-all, paste, paste-zero, paste-suc, set-at}
-use Rattle.rules.specs.Sums.{total}
+use Rattle.rules.specs.Sums.{sumOver}
 use Rattle.figures.specs.Places.{placeIn, closedUp}
 
 module _ {A : Type 0} (xs : List A) (n i : ℕ) (hn : n ≤ length xs) where
@@ -23,13 +23,13 @@ module _ {A : Type 0} (xs : List A) (n i : ℕ) (hn : n ≤ length xs) where
   over-in hi = let h : length (take n xs) ≤ i = rw (length-take-le n xs hn) hi in drop-of-length-le (take n xs) h
 
   -- a sum over the first n elements
-  pub total-on : (m : A → ℕ) (z : A) → i < n → total m (drop i (take n xs)) ≡ m (getD xs i z) + total m (drop (i + 1) (take n xs))
-  unfolding total
-  total-on m z hi = rw (next-in z hi)
+  pub sum-over-on : (m : A → ℕ) (z : A) → i < n → sumOver m (drop i (take n xs)) ≡ m (getD xs i z) + sumOver m (drop (i + 1) (take n xs))
+  unfolding sumOver
+  sum-over-on m z hi = rw (next-in z hi)
 
-  pub total-end : (m : A → ℕ) → n ≤ i → total m (drop i (take n xs)) ≡ 0
-  unfolding total
-  total-end m hi = rw (over-in hi)
+  pub sum-over-end : (m : A → ℕ) → n ≤ i → sumOver m (drop i (take n xs)) ≡ 0
+  unfolding sumOver
+  sum-over-end m hi = rw (over-in hi)
 
 -- a search among the first n keys
 module _ (k : ℕ) (xs : List ℕ) (n i : ℕ) (hn : n ≤ length xs) where

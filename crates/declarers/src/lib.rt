@@ -7,7 +7,7 @@ ghost use lib.ListN.{length, take};
 ghost use Rattle.rules.specs.Keyed.{find, isThere};
 ghost use Rattle.rules.specs.Limits.{mostDeclarers};
 ghost use Rattle.rules.specs.Money.{millions};
-ghost use Rattle.rules.specs.Sums.{total};
+ghost use Rattle.rules.specs.Sums.{sumOver};
 ghost use Rattle.figures.specs.Places.{placeIn, closedUp};
 ghost use Rattle.figures.specs.Figures.{standingOf, sumOf, held, placeOf, noFigures, replacedFigures, addedFigures, closedFigures, declaredFigures, withdrawnFigures};
 use figures::Figures;
@@ -75,7 +75,7 @@ pub fn stands(figures: Figures, declarer: u64) -> bool
 // The sum of the first n figures, each held to the range of quotas.
 fn sum_in(quotas: [Millions; 8], n: usize) -> u64
     requires { ⌜ n ≤ 8 ⌝ }
-    ensures { λ r. ⌜ r ≡ total held (take n quotas) ⌝ }
+    ensures { λ r. ⌜ r ≡ sumOver held (take n quotas) ⌝ }
 {
     let mut sum: u64 = 0;
     let mut i: usize = 0;

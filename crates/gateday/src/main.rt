@@ -6,6 +6,8 @@ ghost use lib.ListN.{length, drop};
 ghost use Rattle.claim.specs.Step.{memory};
 ghost use Rattle.day.specs.Day.{toldIn};
 ghost use Rattle.day.specs.Pieces.{Done};
+use book::layout::BOOK;
+use book::layout::PLACE_WORDS;
 use day::answer_lines;
 use day::answer_rest;
 use day::keep_rest;
@@ -13,6 +15,10 @@ use lister::write;
 use listing::lines::ROW;
 use opening::open;
 use quota::asks::groups_enrolled;
+use register::layout::REGISTER;
+
+// "Program `gateday` has N = 2,048": so many places, in words.
+const PLACES: usize = PLACE_WORDS * 2048;
 
 // The first n bytes, to standard output.
 fn print(bytes: &[u8], n: usize) {
@@ -113,9 +119,9 @@ fn print_day(
 }
 
 fn main() {
-    let mut register = [0u32; 2000];
-    let mut book = [0u64; 194];
-    let mut places = [0u64; 8192];
+    let mut register = [0u32; REGISTER];
+    let mut book = [0u64; BOOK];
+    let mut places = [0u64; PLACES];
     let mut input = io::large_buffer();
     let mut out = [0u8; 65530];
     open(&mut register, &mut book, &places);

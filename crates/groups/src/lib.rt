@@ -4,7 +4,7 @@ ghost use mathlib.Core.Bool.{not};
 ghost use mathlib.Core.List.{[]};
 ghost use lib.ListN.{length};
 ghost use Prim.Native.Nat.{_<_};
-ghost use Rattle.register.specs.Layout.{place as placeOf, recordAt, putWords, figuresOf, groupOf, wordsOf, groupAt, putGroup, groupCount, addGroup, isGroup, isTaken};
+ghost use Rattle.register.specs.Layout.{place as placeOf, recordAt, putWords, figuresOf, groupOf, wordsOf, groupAt, putGroup, groupCount, addGroup, isGroup, isTaken, recordWords, registerLength};
 ghost use Rattle.words.specs.Each.{allBelow};
 use codec::emergency_of;
 use codec::figure_word;
@@ -27,7 +27,7 @@ use words::wide;
 use words::word32;
 
 fn figures_of(w: &[u64]) -> Figures
-    requires { ⌜ length (now w) ≡ 23 ⌝ }
+    requires { ⌜ length (now w) ≡ recordWords ⌝ }
     ensures { λ r. ⌜ r ≡ figuresOf (now (w .entry)) ⌝ }
 {
     let declarers = [w[7], w[8], w[9], w[10], w[11], w[12], w[13], w[14]];
@@ -51,7 +51,7 @@ fn figures_of(w: &[u64]) -> Figures
 
 // What a record says.
 fn group_of(w: &[u64]) -> Group
-    requires { ⌜ length (now w) ≡ 23 ⌝ }
+    requires { ⌜ length (now w) ≡ recordWords ⌝ }
     ensures { λ r. ⌜ r ≡ groupOf (now (w .entry)) ⌝ }
 {
     let code = w[0];
@@ -74,7 +74,7 @@ fn group_of(w: &[u64]) -> Group
 }
 
 // The record of a group.
-fn words_of(group: Group) -> [u64; 23]
+fn words_of(group: Group) -> [u64; RECORD]
     ensures { λ r. ⌜ r ≡ wordsOf group ⌝ }
 {
     let quota = group.quota;
@@ -119,12 +119,12 @@ fn words_of(group: Group) -> [u64; 23]
 fn no_group() -> Group
     ensures { λ r. ⌜ r ≡ groupOf [] ⌝ }
 {
-    group_of(&[0u64; 23])
+    group_of(&[0u64; RECORD])
 }
 
 // Where word k of group i stands.
 fn place(i: usize, k: usize) -> usize
-    requires { ⌜ (i < 64) × (k < 23) ⌝ }
+    requires { ⌜ (i < 64) × (k < recordWords) ⌝ }
     ensures { λ r. ⌜ r ≡ placeOf i k ⌝ }
 {
     if k < 7 {
@@ -137,11 +137,11 @@ fn place(i: usize, k: usize) -> usize
 }
 
 // The words of group i.
-fn gathered(register: &[u32], i: usize) -> [u64; 23]
-    requires { ⌜ (length (now register) ≡ 2000) × (i < 64) ⌝ }
+fn gathered(register: &[u32], i: usize) -> [u64; RECORD]
+    requires { ⌜ (length (now register) ≡ registerLength) × (i < 64) ⌝ }
     ensures { λ r. ⌜ r ≡ recordAt (now (register .entry)) i ⌝ }
 {
-    let mut r = [0u64; 23];
+    let mut r = [0u64; RECORD];
     let mut k: usize = 0;
     while k < RECORD {
         let p = place(i, k);
@@ -152,9 +152,9 @@ fn gathered(register: &[u32], i: usize) -> [u64; 23]
 }
 
 // The words of group i replaced.
-fn scatter(register: &mut [u32], i: usize, r: &[u64; 23])
-    requires { ⌜ (length (now register) ≡ 2000) × (i < 64) ⌝ }
-    ensures { λ _. ⌜ now (register .exit) ≡ putWords (now (register .entry)) i (now (r .entry)) 23 ⌝ }
+fn scatter(register: &mut [u32], i: usize, r: &[u64; RECORD])
+    requires { ⌜ (length (now register) ≡ registerLength) × (i < 64) ⌝ }
+    ensures { λ _. ⌜ now (register .exit) ≡ putWords (now (register .entry)) i (now (r .entry)) recordWords ⌝ }
 {
     let mut k: usize = 0;
     while k < RECORD {

@@ -23,7 +23,7 @@ use Rattle.rules.specs.declared.money.Mils.{Mils}
 use Rattle.rules.specs.declared.calls.Call.{Call}
 use Rattle.rules.specs.declared.calls.Call.the-variants.{Enrol, Attach, Detach, Regular, Raise, Withdraw, OwnQuota, Order, Fill, Cancel, Close}
 use Rattle.rules.specs.Refusals.{unlessRefused}
-use Rattle.rules.specs.Sums.{when, when-add, when-zero, total, total-append, total-set}
+use Rattle.rules.specs.Sums.{when, when-add, when-zero, sumOver, sum-over-append, sum-over-set}
 use Rattle.history.specs.Past.{Filled, Ordered, History, atOpening, noOrder, orderAt, filledMoney, openIn, boughtIn, soldIn, moneyIn, Part, belongs}
 use Rattle.history.specs.Answers.{groupOf, refusals, refusalOf, orderReads, placeReads}
 use Rattle.history.specs.Runs.{ordered, filled, cancelled, accept, next, after}
@@ -56,7 +56,7 @@ Priced l = (i : ℕ) → priceRule ((getD l i noOrder) .kind) ((getD l i noOrder
 module _ (w : Part) (o : Ordered) where
   filled-more : (p : Mils) (q : ℕ) → filledMoney (filled p q o) ≡ filledMoney o + p .0 * q
   unfolding filledMoney
-  filled-more p q = total-append (λ f. (amount (f .price) (f .quantity)) .0) (o .fills) (record { price = p; quantity = q })
+  filled-more p q = sum-over-append (λ f. (amount (f .price) (f .quantity)) .0) (o .fills) (record { price = p; quantity = q })
 
   -- a fill: open and bought before are open, bought and improved after; sold grows by the fill
   pub fill-one : (p : Mils) (q : ℕ) → q ≤ o .«open» → priceRule (o .kind) (o .price) ≡ true → worseFill (o .kind) (o .price) p ≡ false
@@ -86,8 +86,8 @@ module _ (w : Part) (o : Ordered) where
 
 -- the parts agree with the orders
 record Tally (w : Part) (l : List Ordered) (s : Parts) : Type 0 where
-  pub plus : s .submitted ≡ total (openIn w) l + total (boughtIn w) l + s .cancelled + s .improved
-  pub minus : s .sold ≡ total (soldIn w) l
+  pub plus : s .submitted ≡ sumOver (openIn w) l + sumOver (boughtIn w) l + s .cancelled + s .improved
+  pub minus : s .sold ≡ sumOver (soldIn w) l
   pub priced : Priced l
 
 priced-append : (l : List Ordered) (o : Ordered) → Priced l → priceRule (o .kind) (o .price) ≡ true → Priced (l ++ (o ∷ []))
@@ -107,7 +107,7 @@ priced-set (x ∷ l) (suc k) o h p (suc i) = priced-set l k o (λ j. h (suc j)) 
 
 module _ (N : ℕ) (rule : Rule) (w : Part) (h : History) (s : Parts) (t : Tally w (h .orders) s) where
   tally-order : (u k : ℕ) (p : Mils) (q : ℕ) → refusalOf N rule h (Order u k p q) ≡ 0 → Tally w ((accept h (Order u k p q)) .orders) (counted w h s (Order u k p q))
-  unfolding refusals orderRules accept counted openIn boughtIn soldIn filledMoney total Priced
+  unfolding refusals orderRules accept counted openIn boughtIn soldIn filledMoney sumOver Priced
   tally-order u k p q e =
       let o : Ordered = ordered u k p q (groupOf h u) in
       let c = clear 1 (orderRules rule u k p q (orderReads N h u)) (order-rises rule u k p q (orderReads N h u)) e in
@@ -115,9 +115,9 @@ module _ (N : ℕ) (rule : Rule) (w : Part) (h : History) (s : Parts) (t : Tally
       let r = both (priceRule k p) (isQuantity q) (both (isKind k) (priceRule k p && isQuantity q) (f .1) .1) in
       let none-bought : boughtIn w o ≡ 0 = ap (when (w u (groupOf h u))) (when-zero (isBuy k)) ∙ when-zero (w u (groupOf h u)) in
       let none-sold : soldIn w o ≡ 0 = ap (when (w u (groupOf h u))) (when-zero (not (isBuy k))) ∙ when-zero (w u (groupOf h u)) in
-      let a = total-append (openIn w) (h .orders) o in
-      let b = total-append (boughtIn w) (h .orders) o in
-      let d = total-append (soldIn w) (h .orders) o in
+      let a = sum-over-append (openIn w) (h .orders) o in
+      let b = sum-over-append (boughtIn w) (h .orders) o in
+      let d = sum-over-append (soldIn w) (h .orders) o in
       record {
         plus = omega (arith, t .plus, a, b, none-bought);
         minus = omega (arith, t .minus, d, none-sold);
@@ -132,9 +132,9 @@ module _ (N : ℕ) (rule : Rule) (w : Part) (h : History) (s : Parts) (t : Tally
       let i = within-true 1 (length (h .orders)) k (not-false (within 1 (length (h .orders)) k) (c .1 .0)) in
       let l : k - 1 < length (h .orders) = omega arith in
       let f = fill-one w o p q (ltb-false (o .«open») q (c .1 .1 .0)) (t .priced (k - 1)) (c .1 .1 .1 .0) in
-      let a = total-set (openIn w) (h .orders) (k - 1) (filled p q o) noOrder l in
-      let b = total-set (boughtIn w) (h .orders) (k - 1) (filled p q o) noOrder l in
-      let d = total-set (soldIn w) (h .orders) (k - 1) (filled p q o) noOrder l in
+      let a = sum-over-set (openIn w) (h .orders) (k - 1) (filled p q o) noOrder l in
+      let b = sum-over-set (boughtIn w) (h .orders) (k - 1) (filled p q o) noOrder l in
+      let d = sum-over-set (soldIn w) (h .orders) (k - 1) (filled p q o) noOrder l in
       record {
         plus = omega (arith, t .plus, a, b, f .0);
         minus = omega (arith, t .minus, d, f .1);
@@ -149,9 +149,9 @@ module _ (N : ℕ) (rule : Rule) (w : Part) (h : History) (s : Parts) (t : Tally
       let i = within-true 1 (length (h .orders)) k (not-false (within 1 (length (h .orders)) k) (c .1 .0)) in
       let l : k - 1 < length (h .orders) = omega arith in
       let f = cancel-one w o in
-      let a = total-set (openIn w) (h .orders) (k - 1) (cancelled o) noOrder l in
-      let b = total-set (boughtIn w) (h .orders) (k - 1) (cancelled o) noOrder l in
-      let d = total-set (soldIn w) (h .orders) (k - 1) (cancelled o) noOrder l in
+      let a = sum-over-set (openIn w) (h .orders) (k - 1) (cancelled o) noOrder l in
+      let b = sum-over-set (boughtIn w) (h .orders) (k - 1) (cancelled o) noOrder l in
+      let d = sum-over-set (soldIn w) (h .orders) (k - 1) (cancelled o) noOrder l in
       record {
         plus = omega (arith, t .plus, a, b, f .0, f .1);
         minus = omega (arith, t .minus, d, f .2);
@@ -159,7 +159,7 @@ module _ (N : ℕ) (rule : Rule) (w : Part) (h : History) (s : Parts) (t : Tally
       }
 
 tally-none : (w : Part) → Tally w [] nothing
-unfolding total Priced priceRule
+unfolding sumOver Priced priceRule
 tally-none w = record { plus = refl; minus = refl; priced = λ i. refl }
 
 module _ (N : ℕ) (rule : Rule) (w : Part) where
@@ -198,8 +198,8 @@ module _ (N : ℕ) (rule : Rule) (w : Part) where
       let s : Parts = parts N rule w atOpening nothing cs in
       let l : List Ordered = (after N rule atOpening cs) .orders in
       let k : ℕ = s .cancelled + s .improved in
-      let a : s .submitted ≡ total (openIn w) l + total (boughtIn w) l + k = omega (arith, t .plus) in
-      let b : s .sold + s .cancelled + s .improved ≡ total (soldIn w) l + k = omega (arith, t .minus) in
+      let a : s .submitted ≡ sumOver (openIn w) l + sumOver (boughtIn w) l + k = omega (arith, t .plus) in
+      let b : s .sold + s .cancelled + s .improved ≡ sumOver (soldIn w) l + k = omega (arith, t .minus) in
       ap (λ x. subℕ x (s .sold + s .cancelled + s .improved)) a
-      ∙ ap (λ x. subℕ (total (openIn w) l + total (boughtIn w) l + k) x) b
-      ∙ sub-same (total (openIn w) l + total (boughtIn w) l) (total (soldIn w) l) k
+      ∙ ap (λ x. subℕ (sumOver (openIn w) l + sumOver (boughtIn w) l + k) x) b
+      ∙ sub-same (sumOver (openIn w) l + sumOver (boughtIn w) l) (sumOver (soldIn w) l) k

@@ -13,14 +13,14 @@ use Rattle.rules.specs.declared.calls.Answer.{Answer}
 use Rattle.columns.specs.Column.{column, fits, holds, plainPut, textPut}
 use Rattle.columns.specs.Laws.{length-marked}
 use Rattle.columns.specs.Pastes.{plain-put, plain-behind, text-behind}
-use Rattle.callfile.specs.Lines.{wordsOf, lineText, callText, answerText, callFits, answerFits, callPut, answerPut}
+use Rattle.callfile.specs.Lines.{wordsOf, lineText, callText, answerText, callFits, answerFits, callPut, answerPut, callBytes, lineBytes}
 use Rattle.callfile.specs.Laws.{Fit, length-line}
 use Rattle.callfile.specs.declared.words.Words.{Words}
 
 -- five columns, one behind the other
-pub words-put : (w : Words) (at : ℕ) (o₀ o₁ o₂ o₃ o₄ o₅ : List ℕ) → at + 38 ≤ length o₀ → Fit w → o₁ ≡ plainPut o₀ at 2 (w .code)
+pub words-put : (w : Words) (at : ℕ) (o₀ o₁ o₂ o₃ o₄ o₅ : List ℕ) → at + lineBytes ≤ length o₀ → Fit w → o₁ ≡ plainPut o₀ at 2 (w .code)
     → o₂ ≡ plainPut o₁ (at + 2) 9 (w .first) → o₃ ≡ plainPut o₂ (at + 11) 9 (w .second) → o₄ ≡ plainPut o₃ (at + 20) 9 (w .third)
-    → o₅ ≡ plainPut o₄ (at + 29) 9 (w .fourth) → o₅ ≡ paste o₀ at (lineText w) 38
+    → o₅ ≡ plainPut o₄ (at + 29) 9 (w .fourth) → o₅ ≡ paste o₀ at (lineText w) lineBytes
 unfolding lineText
 words-put w at o₀ o₁ o₂ o₃ o₄ o₅ h f e₁ e₂ e₃ e₄ e₅ =
     let a : List ℕ = column 2 (w .code) in
@@ -38,16 +38,16 @@ words-put w at o₀ o₁ o₂ o₃ o₄ o₅ h f e₁ e₂ e₃ e₄ e₅ =
     plain-behind o₀ d o₄ o₅ at 29 9 (omega arith) ld p₄ (w .fourth) (f .fourth) e₅
 
 module _ (d : List ℕ) (at : ℕ) (call : Call) where
-  pub call-kept : (holds (length d) at 39 && callFits call) ≡ false → d ≡ callPut d at call
+  pub call-kept : (holds (length d) at callBytes && callFits call) ≡ false → d ≡ callPut d at call
   unfolding callPut
   call-kept e = rw e
 
-  pub call-put : (w : Words) (o₁ o₂ : List ℕ) → at + 39 ≤ length d → w ≡ wordsOf call → callFits call ≡ true → o₁ ≡ paste d at (lineText w) 38
-      → o₂ ≡ textPut o₁ (at + 38) (10 ∷ []) → o₂ ≡ callPut d at call
+  pub call-put : (w : Words) (o₁ o₂ : List ℕ) → at + callBytes ≤ length d → w ≡ wordsOf call → callFits call ≡ true → o₁ ≡ paste d at (lineText w) lineBytes
+      → o₂ ≡ textPut o₁ (at + lineBytes) (10 ∷ []) → o₂ ≡ callPut d at call
   unfolding callPut callText
   call-put w o₁ o₂ h e f p q =
-      let r : o₁ ≡ paste d at (lineText (wordsOf call)) 38 = p ∙ ap (λ (x : Words). paste d at (lineText x) 38) e in
-      rw (le-leb (at + 39) (length d) h, f) (text-behind d (lineText (wordsOf call)) o₁ o₂ at 38 1 (omega arith) (length-line (wordsOf call)) r (10 ∷ []) refl q)
+      let r : o₁ ≡ paste d at (lineText (wordsOf call)) lineBytes = p ∙ ap (λ (x : Words). paste d at (lineText x) lineBytes) e in
+      rw (le-leb (at + callBytes) (length d) h, f) (text-behind d (lineText (wordsOf call)) o₁ o₂ at lineBytes 1 (omega arith) (length-line (wordsOf call)) r (10 ∷ []) refl q)
 
 module _ (d : List ℕ) (at : ℕ) (answer : Answer) where
   pub answer-kept : (holds (length d) at 10 && answerFits answer) ≡ false → d ≡ answerPut d at answer

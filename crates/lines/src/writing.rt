@@ -4,7 +4,7 @@ ghost use mathlib.Core.Bool.{true};
 ghost use Prim.Native.Nat.{_+_, _≤_};
 ghost use lib.ListN.{length};
 ghost use lib.Seq.{paste};
-ghost use Rattle.callfile.specs.Lines.{lineText, wordsFit, answerFits as answerFitsIn, callPut, answerPut};
+ghost use Rattle.callfile.specs.Lines.{lineText, wordsFit, answerFits as answerFitsIn, callPut, answerPut, lineBytes};
 use callfile::layout::ANSWER_BYTES;
 use callfile::layout::CALL_BYTES;
 use callfile::words::Words;
@@ -19,8 +19,8 @@ use rules::calls::Call;
 
 // The five columns of a call line.
 fn put_words(out: &mut [u8], at: usize, w: Words)
-    requires { ⌜ (at + 38 ≤ length (now out)) × (wordsFit w ≡ true) ⌝ }
-    ensures { λ _. ⌜ now (out .exit) ≡ paste (now (out .entry)) at (lineText w) 38 ⌝ }
+    requires { ⌜ (at + lineBytes ≤ length (now out)) × (wordsFit w ≡ true) ⌝ }
+    ensures { λ _. ⌜ now (out .exit) ≡ paste (now (out .entry)) at (lineText w) lineBytes ⌝ }
 {
     put_plain(out, at, 2, w.code);
     put_plain(out, at + 2, 9, w.first);

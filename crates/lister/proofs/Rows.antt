@@ -20,7 +20,7 @@ use Rattle.orders.specs.Host.{hostOk}
 use Rattle.rows.specs.Row.{rowKept, rowAt}
 use Rattle.rows.specs.declared.Row.{Row}
 use Rattle.rows.specs.declared.RowRead.{RowRead}
-use Rattle.listing.specs.Text.{rowText, rowPut, listingText, sameKey, fresh, rowsKept, listingKept}
+use Rattle.listing.specs.Text.{rowText, rowPut, listingText, sameKey, fresh, rowsKept, listingKept, rowBytes}
 use Rattle.listing.specs.RowLaws.{length-row}
 use Rattle.listing.specs.Laws.{length-listing}
 use Rattle.lister.specs.Listed.{rowsOn, gateRows, listRefusal, listed}
@@ -120,23 +120,23 @@ module _ (rs bs : List ℕ) where
       ∙ listing-append (rowsOn rs bs 0 i) ((rowAt rs bs i) .row ∷ [])
       ∙ ap (λ (t : List ℕ). listingText (rowsOn rs bs 0 i) ++ t) one
 
-  pub put-start : (d : List ℕ) → d ≡ paste d 0 (listingText (rowsOn rs bs 0 0)) (108 * 0)
+  pub put-start : (d : List ℕ) → d ≡ paste d 0 (listingText (rowsOn rs bs 0 0)) (rowBytes * 0)
   put-start d = refl
 
-  pub put-step : (d b c : List ℕ) (i n : ℕ) (row : Row) → i < n → 108 * n ≤ length d → rowsKept (rowsOn rs bs 0 n) ≡ true → row ≡ (rowAt rs bs i) .row
-      → b ≡ paste d 0 (listingText (rowsOn rs bs 0 i)) (108 * i) → c ≡ rowPut b (108 * i) row → c ≡ paste d 0 (listingText (rowsOn rs bs 0 (i + 1))) (108 * (i + 1))
+  pub put-step : (d b c : List ℕ) (i n : ℕ) (row : Row) → i < n → rowBytes * n ≤ length d → rowsKept (rowsOn rs bs 0 n) ≡ true → row ≡ (rowAt rs bs i) .row
+      → b ≡ paste d 0 (listingText (rowsOn rs bs 0 i)) (rowBytes * i) → c ≡ rowPut b (rowBytes * i) row → c ≡ paste d 0 (listingText (rowsOn rs bs 0 (i + 1))) (rowBytes * (i + 1))
   unfolding rowPut
   put-step d b c i n row h l k e eb ec =
-      let lt : length (listingText (rowsOn rs bs 0 i)) ≡ 108 * i = length-listing (rowsOn rs bs 0 i) ∙ ap (λ (x : ℕ). 108 * x) (length-rows 0 i) in
+      let lt : length (listingText (rowsOn rs bs 0 i)) ≡ rowBytes * i = length-listing (rowsOn rs bs 0 i) ∙ ap (λ (x : ℕ). rowBytes * x) (length-rows 0 i) in
       let kr : rowKept ((rowAt rs bs i) .row) ≡ true = ap (λ (x : ℕ). rowKept ((rowAt rs bs x) .row)) (sym (zero-add i)) ∙ row-of-kept 0 n i h k in
-      let lb : length b ≡ length d = ap length eb ∙ length-paste d 0 (listingText (rowsOn rs bs 0 i)) (108 * i) (omega arith) (omega arith) in
-      let at : leb (108 * i + 108) (length b) ≡ true = le-leb (108 * i + 108) (length b) (omega arith) in
-      let s : 108 * i + 108 ≡ 108 * (i + 1) = omega arith in
-      let p : c ≡ paste b (108 * i) (rowText ((rowAt rs bs i) .row)) 108 = ec ∙ ap (rowPut b (108 * i)) e ∙ rw (kr, at) refl in
-      p ∙ ap (λ (x : List ℕ). paste x (108 * i) (rowText ((rowAt rs bs i) .row)) 108) eb
-      ∙ chain-on d (listingText (rowsOn rs bs 0 i)) (rowText ((rowAt rs bs i) .row)) (108 * i) 108 (omega arith) lt
+      let lb : length b ≡ length d = ap length eb ∙ length-paste d 0 (listingText (rowsOn rs bs 0 i)) (rowBytes * i) (omega arith) (omega arith) in
+      let at : leb (rowBytes * i + rowBytes) (length b) ≡ true = le-leb (rowBytes * i + rowBytes) (length b) (omega arith) in
+      let s : rowBytes * i + rowBytes ≡ rowBytes * (i + 1) = omega arith in
+      let p : c ≡ paste b (rowBytes * i) (rowText ((rowAt rs bs i) .row)) rowBytes = ec ∙ ap (rowPut b (rowBytes * i)) e ∙ rw (kr, at) refl in
+      p ∙ ap (λ (x : List ℕ). paste x (rowBytes * i) (rowText ((rowAt rs bs i) .row)) rowBytes) eb
+      ∙ chain-on d (listingText (rowsOn rs bs 0 i)) (rowText ((rowAt rs bs i) .row)) (rowBytes * i) rowBytes (omega arith) lt
       ∙ ap (λ (x : ℕ). paste d 0 (listingText (rowsOn rs bs 0 i) ++ rowText ((rowAt rs bs i) .row)) x) s
-      ∙ ap (λ (x : List ℕ). paste d 0 x (108 * (i + 1))) (sym (text-last i))
+      ∙ ap (λ (x : List ℕ). paste d 0 x (rowBytes * (i + 1))) (sym (text-last i))
 
 -- ---- the refusal
 
@@ -161,35 +161,35 @@ module _ (rs bs ps : List ℕ) (room : ℕ) where
     unfolding listRefusal
     list-broken k i f = rw (rows-are k i ∙ f)
 
-    pub list-short : (k : Bool) → k ≡ rowsKept (rowsOn rs bs 0 (groupsEnrolled rs)) → k ≡ true → room < 108 * groupsEnrolled rs → 22 ≡ listRefusal rs bs ps room
+    pub list-short : (k : Bool) → k ≡ rowsKept (rowsOn rs bs 0 (groupsEnrolled rs)) → k ≡ true → room < rowBytes * groupsEnrolled rs → 22 ≡ listRefusal rs bs ps room
     unfolding listRefusal
-    list-short k i f h = rw (rows-are k i ∙ f, lt-ltb room (108 * groupsEnrolled rs) h)
+    list-short k i f h = rw (rows-are k i ∙ f, lt-ltb room (rowBytes * groupsEnrolled rs) h)
 
-    pub list-clear : (k : Bool) → k ≡ rowsKept (rowsOn rs bs 0 (groupsEnrolled rs)) → k ≡ true → 108 * groupsEnrolled rs ≤ room → 0 ≡ listRefusal rs bs ps room
+    pub list-clear : (k : Bool) → k ≡ rowsKept (rowsOn rs bs 0 (groupsEnrolled rs)) → k ≡ true → rowBytes * groupsEnrolled rs ≤ room → 0 ≡ listRefusal rs bs ps room
     unfolding listRefusal
-    list-clear k i f h = rw (rows-are k i ∙ f, le-ltb room (108 * groupsEnrolled rs) h)
+    list-clear k i f h = rw (rows-are k i ∙ f, le-ltb room (rowBytes * groupsEnrolled rs) h)
 
 -- what a clear refusal tells
 pub record Clear (rs bs : List ℕ) (room : ℕ) : Type 0 where
   pub few : groupsEnrolled rs ≤ 64
   pub kept : rowsKept (rowsOn rs bs 0 (groupsEnrolled rs)) ≡ true
-  pub holds : 108 * groupsEnrolled rs ≤ room
+  pub holds : rowBytes * groupsEnrolled rs ≤ room
 
-clear-known : (rs bs ps : List ℕ) (room : ℕ) → (hostOk rs bs ps && listingKept (gateRows rs bs)) ≡ true → ltb room (108 * groupsEnrolled rs) ≡ false → Clear rs bs room
+clear-known : (rs bs ps : List ℕ) (room : ℕ) → (hostOk rs bs ps && listingKept (gateRows rs bs)) ≡ true → ltb room (rowBytes * groupsEnrolled rs) ≡ false → Clear rs bs room
 unfolding listingKept gateRows
 clear-known rs bs ps room a b =
     let h = both (hostOk rs bs ps) (leb (length (rowsOn rs bs 0 (groupsEnrolled rs))) 64 && rowsKept (rowsOn rs bs 0 (groupsEnrolled rs))) a in
     record {
       few = enrolled-most rs bs ps room (h .0);
       kept = both (leb (length (rowsOn rs bs 0 (groupsEnrolled rs))) 64) (rowsKept (rowsOn rs bs 0 (groupsEnrolled rs))) (h .1) .1;
-      holds = ltb-false room (108 * groupsEnrolled rs) b;
+      holds = ltb-false room (rowBytes * groupsEnrolled rs) b;
     }
 
 pub list-known : (rs bs ps : List ℕ) (room r : ℕ) → r ≡ listRefusal rs bs ps room → r ≡ 0 → Clear rs bs room
 unfolding listRefusal
-list-known rs bs ps room r e z = go (hostOk rs bs ps && listingKept (gateRows rs bs)) (ltb room (108 * groupsEnrolled rs)) refl refl (sym e ∙ z)
+list-known rs bs ps room r e z = go (hostOk rs bs ps && listingKept (gateRows rs bs)) (ltb room (rowBytes * groupsEnrolled rs)) refl refl (sym e ∙ z)
   where
-    go : (a b : Bool) → (hostOk rs bs ps && listingKept (gateRows rs bs)) ≡ a → ltb room (108 * groupsEnrolled rs) ≡ b → _≡_ {A = ℕ} (pick (not a) 1 (pick b 22 0)) 0 → Clear rs bs room
+    go : (a b : Bool) → (hostOk rs bs ps && listingKept (gateRows rs bs)) ≡ a → ltb room (rowBytes * groupsEnrolled rs) ≡ b → _≡_ {A = ℕ} (pick (not a) 1 (pick b 22 0)) 0 → Clear rs bs room
     go true false p q k = clear-known rs bs ps room p q
     go true true p q k = absurd (omega arith)
     go false b p q k = absurd (omega arith)
@@ -197,16 +197,16 @@ list-known rs bs ps room r e z = go (hostOk rs bs ps && listingKept (gateRows rs
 module _ (rs bs ps d : List ℕ) (r : ℕ) (e : r ≡ listRefusal rs bs ps (length d)) where
   pub write-refused : (r ≡ 0 → ⊥) → (r ≡ listRefusal rs bs ps (length d)) × (d ≡ listed rs bs ps d)
   unfolding listed
-  write-refused n = (e, sym (where-refused (paste d 0 (listingText (gateRows rs bs)) (108 * groupsEnrolled rs)) d (listRefusal rs bs ps (length d)) (λ z. n (e ∙ z))))
+  write-refused n = (e, sym (where-refused (paste d 0 (listingText (gateRows rs bs)) (rowBytes * groupsEnrolled rs)) d (listRefusal rs bs ps (length d)) (λ z. n (e ∙ z))))
 
-  pub write-done : (b : List ℕ) → r ≡ 0 → b ≡ paste d 0 (listingText (rowsOn rs bs 0 (groupsEnrolled rs))) (108 * groupsEnrolled rs) → (0 ≡ listRefusal rs bs ps (length d)) × (b ≡ listed rs bs ps d)
+  pub write-done : (b : List ℕ) → r ≡ 0 → b ≡ paste d 0 (listingText (rowsOn rs bs 0 (groupsEnrolled rs))) (rowBytes * groupsEnrolled rs) → (0 ≡ listRefusal rs bs ps (length d)) × (b ≡ listed rs bs ps d)
   unfolding listed gateRows
-  write-done b z p = (sym (sym e ∙ z), p ∙ sym (where-accepted (paste d 0 (listingText (rowsOn rs bs 0 (groupsEnrolled rs))) (108 * groupsEnrolled rs)) d (listRefusal rs bs ps (length d)) (sym e ∙ z)))
+  write-done b z p = (sym (sym e ∙ z), p ∙ sym (where-accepted (paste d 0 (listingText (rowsOn rs bs 0 (groupsEnrolled rs))) (rowBytes * groupsEnrolled rs)) d (listRefusal rs bs ps (length d)) (sym e ∙ z)))
 
-pub put-end : (rs bs d b : List ℕ) (i n : ℕ) → i ≤ n → n ≤ i → b ≡ paste d 0 (listingText (rowsOn rs bs 0 i)) (108 * i) → b ≡ paste d 0 (listingText (rowsOn rs bs 0 n)) (108 * n)
+pub put-end : (rs bs d b : List ℕ) (i n : ℕ) → i ≤ n → n ≤ i → b ≡ paste d 0 (listingText (rowsOn rs bs 0 i)) (rowBytes * i) → b ≡ paste d 0 (listingText (rowsOn rs bs 0 n)) (rowBytes * n)
 put-end rs bs d b i n h l e =
     let q : i ≡ n = omega arith in
-    e ∙ ap (λ (x : ℕ). paste d 0 (listingText (rowsOn rs bs 0 x)) (108 * x)) q
+    e ∙ ap (λ (x : ℕ). paste d 0 (listingText (rowsOn rs bs 0 x)) (rowBytes * x)) q
 
 -- the test of a code with its class, of a row that was read
 pub key-is : (row : Row) (t : Bool) (read is : RowRead) → read ≡ is → (eqb (row .code) (read .row .code) && eqb (row .class) (read .row .class)) ≡ t → sameKey row (is .row) ≡ t
@@ -222,8 +222,8 @@ fresh-is t others read is k e p q = ap (λ (x : RowRead). fresh (x .row) others)
 pub counted : (rs bs : List ℕ) (n : ℕ) (k : Bool) → n ≡ groupsEnrolled rs → k ≡ rowsKept (rowsOn rs bs 0 n) → k ≡ rowsKept (rowsOn rs bs 0 (groupsEnrolled rs))
 counted rs bs n k e p = p ∙ ap (λ (x : ℕ). rowsKept (rowsOn rs bs 0 x)) e
 
-pub rows-written : (rs bs d b : List ℕ) (n : ℕ) → n ≡ groupsEnrolled rs → b ≡ paste d 0 (listingText (rowsOn rs bs 0 n)) (108 * n) → b ≡ paste d 0 (listingText (rowsOn rs bs 0 (groupsEnrolled rs))) (108 * groupsEnrolled rs)
-rows-written rs bs d b n e p = p ∙ ap (λ (x : ℕ). paste d 0 (listingText (rowsOn rs bs 0 x)) (108 * x)) e
+pub rows-written : (rs bs d b : List ℕ) (n : ℕ) → n ≡ groupsEnrolled rs → b ≡ paste d 0 (listingText (rowsOn rs bs 0 n)) (rowBytes * n) → b ≡ paste d 0 (listingText (rowsOn rs bs 0 (groupsEnrolled rs))) (rowBytes * groupsEnrolled rs)
+rows-written rs bs d b n e p = p ∙ ap (λ (x : ℕ). paste d 0 (listingText (rowsOn rs bs 0 x)) (rowBytes * x)) e
 
 pub from-start : (rs bs : List ℕ) (n : ℕ) → rowsKept (rowsOn rs bs 0 n) ≡ rowsKept (rowsOn rs bs 0 (n - 0))
 from-start rs bs n =

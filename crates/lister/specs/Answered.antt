@@ -12,7 +12,7 @@ use Rattle.rules.specs.Quotas.{quotaDue, closedQuota}
 use Rattle.rules.specs.Orders.{shanghai, netOf}
 use Rattle.rules.specs.Lists.{enrolRules, regularRules, ownQuotaRules}
 use Rattle.rules.specs.Keyed.{find, put, without}
-use Rattle.rules.specs.Sums.{total}
+use Rattle.rules.specs.Sums.{sumOver}
 use Rattle.rules.specs.declared.calls.Call.{Call}
 use Rattle.rules.specs.declared.calls.Call.the-variants.{Enrol, Regular, OwnQuota, Close}
 use Rattle.history.specs.Past.{openIn, boughtIn, soldIn, moneyIn}
@@ -68,7 +68,7 @@ module _ (rs bs ps : List ℕ) where
 
   module _ (o : openRefusal rs bs ps ≡ 0) where
     pub answered : Answered
-    unfolding enrols after next refusals accept isTaken find put without total openIn boughtIn soldIn moneyIn netOf quotaDue closedQuota enrolRules regularRules ownQuotaRules byteAt marked number digits signedNet rowText listingText historyRow historyRowsOn historyRows
+    unfolding enrols after next refusals accept isTaken find put without sumOver openIn boughtIn soldIn moneyIn netOf quotaDue closedQuota enrolRules regularRules ownQuotaRules byteAt marked number digits signedNet rowText listingText historyRow historyRowsOn historyRows
     answered = record {
       none = (listing-demand rs bs ps o [] .refusal 0, listing-demand rs bs ps o [] .refusal 1);
       one = (listing-demand rs bs ps o (Enrol 1 1 ∷ []) .refusal 0, listing-demand rs bs ps o (Enrol 1 1 ∷ []) .refusal 107, listing-demand rs bs ps o (Enrol 1 1 ∷ []) .refusal 108, listing-demand rs bs ps o (Enrol 1 1 ∷ []) .refusal 109);

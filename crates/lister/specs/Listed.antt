@@ -11,7 +11,7 @@ use Rattle.quota.specs.Asks.{groupsEnrolled}
 use Rattle.orders.specs.Host.{hostOk}
 use Rattle.rows.specs.Row.{rowAt}
 use Rattle.rows.specs.declared.Row.{Row}
-use Rattle.listing.specs.Text.{listingText, listingKept}
+use Rattle.listing.specs.Text.{listingText, listingKept, rowBytes}
 
 -- the rows of n groups from number i on
 unfoldable pub rowsOn : List ℕ → List ℕ → ℕ → ℕ → List Row
@@ -26,7 +26,7 @@ unfoldable pub listRefusal : List ℕ → List ℕ → List ℕ → ℕ → ℕ
 listRefusal rs bs ps room =
     refusal (
     (UNSOUND, not (hostOk rs bs ps && listingKept (gateRows rs bs)))
-    ∷ (SHORT-BUFFER, ltb room (108 * groupsEnrolled rs))
+    ∷ (SHORT-BUFFER, ltb room (rowBytes * groupsEnrolled rs))
     ∷ []
     )
 
@@ -34,5 +34,5 @@ listRefusal rs bs ps room =
 unfoldable pub listed : List ℕ → List ℕ → List ℕ → List ℕ → List ℕ
 listed rs bs ps buffer =
     unlessRefused (listRefusal rs bs ps (length buffer))
-    (paste buffer 0 (listingText (gateRows rs bs)) (108 * groupsEnrolled rs))
+    (paste buffer 0 (listingText (gateRows rs bs)) (rowBytes * groupsEnrolled rs))
     buffer

@@ -4,7 +4,7 @@ ghost use mathlib.Core.Bool.{true};
 ghost use Prim.Native.Nat.{_*_, _-_, _≤_};
 ghost use lib.ListN.{length};
 ghost use lib.Seq.{paste};
-ghost use Rattle.listing.specs.Text.{listingText, fresh, rowsKept};
+ghost use Rattle.listing.specs.Text.{listingText, fresh, rowsKept, rowBytes};
 ghost use Rattle.lister.specs.Listed.{rowsOn, listRefusal, listed};
 use listing::lines::ROW;
 use listing::lines::put_row;
@@ -72,8 +72,8 @@ fn refusal_of_listing(register: &[u32], book: &[u64], places: &[u64], room: usiz
 
 // The rows of the first n groups, one behind the other from the buffer's start.
 fn put_rows(register: &[u32], book: &[u64], n: u64, buffer: &mut [u8])
-    requires { ⌜ (108 * n ≤ length (now buffer)) × (rowsKept (rowsOn (now register) (now book) 0 n) ≡ true) ⌝ }
-    ensures { λ _. ⌜ now (buffer .exit) ≡ paste (now (buffer .entry)) 0 (listingText (rowsOn (now (register .entry)) (now (book .entry)) 0 n)) (108 * n) ⌝ }
+    requires { ⌜ (rowBytes * n ≤ length (now buffer)) × (rowsKept (rowsOn (now register) (now book) 0 n) ≡ true) ⌝ }
+    ensures { λ _. ⌜ now (buffer .exit) ≡ paste (now (buffer .entry)) 0 (listingText (rowsOn (now (register .entry)) (now (book .entry)) 0 n)) (rowBytes * n) ⌝ }
 {
     let mut i = 0;
     while i < n {

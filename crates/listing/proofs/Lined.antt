@@ -13,7 +13,7 @@ use Rattle.columns.specs.Pastes.{chain, plain-put, optional-put, signed-put, te
 use Rattle.columns.specs.declared.reading.Plain.{Plain}
 use Rattle.rows.specs.Row.{rowKept}
 use Rattle.rows.specs.declared.Row.{Row}
-use Rattle.listing.specs.Text.{isSet, millionsIn, limitPut, limitsPut, rowText, rowIn, readLine, rowPut}
+use Rattle.listing.specs.Text.{isSet, millionsIn, limitPut, limitsPut, rowText, rowIn, readLine, rowPut, rowBytes}
 use Rattle.listing.specs.RowLaws.{Fitting, fitting, length-row}
 use Rattle.listing.specs.declared.lines.Line.{Line}
 
@@ -47,7 +47,7 @@ module _ (d : List ℕ) (at : ℕ) (p a : List ℕ) (m w : ℕ) (g : Grown d at 
   signed-more : (q : List ℕ) (below : Bool) (n : ℕ) → signedFits w below n ≡ true → q ≡ signedPut p (at + m) w below n → Grown d at q (a ++ signedText w below n) (m + w)
   signed-more q below n f e = more q (signedText w below n) (length-signed w below n) (e ∙ signed-put p (at + m) w below n room f)
 
-pub row-written : (d : List ℕ) (at : ℕ) (r : Row) (d₁ d₂ d₄ d₅ d₆ d₇ d₈ d₉ : List ℕ) → at + 108 ≤ length d → rowKept r ≡ true
+pub row-written : (d : List ℕ) (at : ℕ) (r : Row) (d₁ d₂ d₄ d₅ d₆ d₇ d₈ d₉ : List ℕ) → at + rowBytes ≤ length d → rowKept r ≡ true
     → d₁ ≡ plainPut d at 5 (r .code)
     → d₂ ≡ plainPut d₁ (at + 5) 2 (r .class)
     → d₄ ≡ limitsPut d₂ (at + 7) (r .maximum) (r .own)
@@ -56,7 +56,7 @@ pub row-written : (d : List ℕ) (at : ℕ) (r : Row) (d₁ d₂ d₄ d₅ d₆ 
     → d₇ ≡ plainPut d₆ (at + 65) 21 (r .money .bought .0)
     → d₈ ≡ plainPut d₇ (at + 86) 21 (r .money .sold .0)
     → d₉ ≡ textPut d₈ (at + 107) (10 ∷ [])
-    → d₉ ≡ paste d at (rowText r) 108
+    → d₉ ≡ paste d at (rowText r) rowBytes
 unfolding rowText
 row-written d at r d₁ d₂ d₄ d₅ d₆ d₇ d₈ d₉ h k e₁ e₂ e₄ e₅ e₆ e₇ e₈ e₉ =
     let f : Fitting r = fitting r k in
@@ -77,29 +77,29 @@ module _ (d : List ℕ) (at : ℕ) (r : Row) (k : Bool) (is : k ≡ rowKept r) w
   unfolding rowPut
   put-unruly n = rw (sym is ∙ not-true k n)
 
-  pub put-short : not k ≡ false → length d < at + 108 → d ≡ rowPut d at r
+  pub put-short : not k ≡ false → length d < at + rowBytes → d ≡ rowPut d at r
   unfolding rowPut
-  put-short n h = rw (sym is ∙ not-false k n, lt-leb (at + 108) (length d) h)
+  put-short n h = rw (sym is ∙ not-false k n, lt-leb (at + rowBytes) (length d) h)
 
-  pub put-whole : (q : List ℕ) → not k ≡ false → at + 108 ≤ length d → q ≡ paste d at (rowText r) 108 → q ≡ rowPut d at r
+  pub put-whole : (q : List ℕ) → not k ≡ false → at + rowBytes ≤ length d → q ≡ paste d at (rowText r) rowBytes → q ≡ rowPut d at r
   unfolding rowPut
-  put-whole q n h e = rw (sym is ∙ not-false k n, le-leb (at + 108) (length d) h) e
+  put-whole q n h e = rw (sym is ∙ not-false k n, le-leb (at + rowBytes) (length d) h) e
 
 -- ---- read
 
-cut : (t : List ℕ) (at : ℕ) → take (at + 108 - at) (drop at t) ≡ part t at 108
+cut : (t : List ℕ) (at : ℕ) → take (at + rowBytes - at) (drop at t) ≡ part t at rowBytes
 cut t at =
-    let e : at + 108 - at ≡ 108 = omega arith in
+    let e : at + rowBytes - at ≡ rowBytes = omega arith in
     ap (λ (n : ℕ). take n (drop at t)) e
 
 module _ (t : List ℕ) (at : ℕ) where
-  pub line-said : (l : Line) → l ≡ readLine (take (at + 108 - at) (drop at t)) → l ≡ readLine (part t at 108)
+  pub line-said : (l : Line) → l ≡ readLine (take (at + rowBytes - at) (drop at t)) → l ≡ readLine (part t at rowBytes)
   line-said l e = e ∙ ap readLine (cut t at)
 
-  pub code-said : (p : Plain) → p ≡ plainAt (take (at + 108 - at) (drop at t)) 0 5 → p .number ≡ (rowIn (part t at 108)) .code
+  pub code-said : (p : Plain) → p ≡ plainAt (take (at + rowBytes - at) (drop at t)) 0 5 → p .number ≡ (rowIn (part t at rowBytes)) .code
   unfolding rowIn
   code-said p e = ap (λ (x : Plain). x .number) (e ∙ ap (λ (l : List ℕ). plainAt l 0 5) (cut t at))
 
-  pub class-said : (p : Plain) → p ≡ plainAt (take (at + 108 - at) (drop at t)) 5 2 → p .number ≡ (rowIn (part t at 108)) .class
+  pub class-said : (p : Plain) → p ≡ plainAt (take (at + rowBytes - at) (drop at t)) 5 2 → p .number ≡ (rowIn (part t at rowBytes)) .class
   unfolding rowIn
   class-said p e = ap (λ (x : Plain). x .number) (e ∙ ap (λ (l : List ℕ). plainAt l 5 2) (cut t at))

@@ -15,11 +15,11 @@ use Rattle.rules.specs.Tests.{both}
 use Rattle.rules.specs.Limits.{mostGroups}
 use Rattle.rows.specs.Row.{rowKept}
 use Rattle.rows.specs.declared.Row.{Row}
-use Rattle.listing.specs.Text.{rowText, rowIn, rowGood, listingText, fresh, rowsKept, listingKept, rowsFrom, rowsGood, isListing, rowsIn, stepAt, stepIn, stepOf, nextAt, numberOf}
+use Rattle.listing.specs.Text.{rowText, rowIn, rowGood, listingText, fresh, rowsKept, listingKept, rowsFrom, rowsGood, isListing, rowsIn, stepAt, stepIn, stepOf, nextAt, numberOf, rowBytes}
 use Rattle.listing.specs.RowLaws.{length-row, row-back, row-good, good-text, good-kept}
 use Rattle.listing.specs.declared.texts.Step.the-variants.{Next, Broken, End}
 
-pub length-listing : (rs : List Row) → length (listingText rs) ≡ 108 * length rs
+pub length-listing : (rs : List Row) → length (listingText rs) ≡ rowBytes * length rs
 unfolding listingText
 length-listing [] = refl
 length-listing (r ∷ rs) = rw (length-append (rowText r) (listingText rs), length-row r, length-listing rs) (omega arith)
@@ -38,25 +38,25 @@ first-kept r rs h =
     record { kept = a .0; alone = b .0; others = b .1 }
 
 pub record FirstGood (n : ℕ) (t : List ℕ) : Type 0 where
-  pub good : rowGood (take 108 t) ≡ true
-  pub alone : fresh (rowIn (take 108 t)) (rowsFrom n (drop 108 t)) ≡ true
-  pub others : rowsGood n (drop 108 t) ≡ true
+  pub good : rowGood (take rowBytes t) ≡ true
+  pub alone : fresh (rowIn (take rowBytes t)) (rowsFrom n (drop rowBytes t)) ≡ true
+  pub others : rowsGood n (drop rowBytes t) ≡ true
 
 first-good : (n : ℕ) (t : List ℕ) → rowsGood (suc n) t ≡ true → FirstGood n t
 unfolding rowsGood
 first-good n t h =
-    let a = both (rowGood (take 108 t)) (fresh (rowIn (take 108 t)) (rowsFrom n (drop 108 t)) && rowsGood n (drop 108 t)) h in
-    let b = both (fresh (rowIn (take 108 t)) (rowsFrom n (drop 108 t))) (rowsGood n (drop 108 t)) (a .1) in
+    let a = both (rowGood (take rowBytes t)) (fresh (rowIn (take rowBytes t)) (rowsFrom n (drop rowBytes t)) && rowsGood n (drop rowBytes t)) h in
+    let b = both (fresh (rowIn (take rowBytes t)) (rowsFrom n (drop rowBytes t))) (rowsGood n (drop rowBytes t)) (a .1) in
     record { good = a .0; alone = b .0; others = b .1 }
 
 -- ---- reading what was written
 
 module _ (r : Row) (rs : List Row) where
-  first-line : take 108 (rowText r ++ listingText rs) ≡ rowText r
-  first-line = take-at (rowText r) (listingText rs) 108 (length-row r)
+  first-line : take rowBytes (rowText r ++ listingText rs) ≡ rowText r
+  first-line = take-at (rowText r) (listingText rs) rowBytes (length-row r)
 
-  other-lines : drop 108 (rowText r ++ listingText rs) ≡ listingText rs
-  other-lines = drop-at (rowText r) (listingText rs) 108 (length-row r)
+  other-lines : drop rowBytes (rowText r ++ listingText rs) ≡ listingText rs
+  other-lines = drop-at (rowText r) (listingText rs) rowBytes (length-row r)
 
 rows-back : (rs : List Row) → rowsKept rs ≡ true → rowsFrom (length rs) (listingText rs) ≡ rs
 unfolding listingText rowsFrom
@@ -72,109 +72,109 @@ rows-good (r ∷ rs) h =
     let k : FirstKept r rs = first-kept r rs h in
     rw (first-line r rs, other-lines r rs, row-good r (k .kept), row-back r (k .kept), rows-back rs (k .others), k .alone) (rows-good rs (k .others))
 
-count : (rs : List Row) → length (listingText rs) / 108 ≡ length rs
-count rs = rw (length-listing rs) (mul-div-cancel-left (length rs) {n = 108} (omega arith))
+count : (rs : List Row) → length (listingText rs) / rowBytes ≡ length rs
+count rs = rw (length-listing rs) (mul-div-cancel-left (length rs) {n = rowBytes} (omega arith))
 
 pub listing-read : (rs : List Row) → listingKept rs ≡ true → (isListing (listingText rs) ≡ true) × (rowsIn (listingText rs) ≡ rs)
 unfolding isListing rowsIn listingKept
 listing-read rs h =
     let b = both (leb (length rs) mostGroups) (rowsKept rs) h in
-    (rw (count rs, length-listing rs, mul-mod-right 108 (length rs), b .0) (rows-good rs (b .1)), rw (count rs) (rows-back rs (b .1)))
+    (rw (count rs, length-listing rs, mul-mod-right rowBytes (length rs), b .0) (rows-good rs (b .1)), rw (count rs) (rows-back rs (b .1)))
 
 -- ---- no other text is accepted
 
 length-rows : (n : ℕ) (t : List ℕ) → length (rowsFrom n t) ≡ n
 unfolding rowsFrom
 length-rows zero t = refl
-length-rows (suc n) t = ap suc (length-rows n (drop 108 t))
+length-rows (suc n) t = ap suc (length-rows n (drop rowBytes t))
 
-only : (n : ℕ) (t : List ℕ) → length t ≡ 108 * n → rowsGood n t ≡ true → (t ≡ listingText (rowsFrom n t)) × (rowsKept (rowsFrom n t) ≡ true)
+only : (n : ℕ) (t : List ℕ) → length t ≡ rowBytes * n → rowsGood n t ≡ true → (t ≡ listingText (rowsFrom n t)) × (rowsKept (rowsFrom n t) ≡ true)
 unfolding listingText rowsKept rowsFrom
 only zero [] l h = (refl, refl)
 only zero (x ∷ t) l h = absurd (omega arith)
 only (suc n) t l h =
     let g : FirstGood n t = first-good n t h in
-    let rec = only n (drop 108 t) (rw (length-drop 108 t) (omega arith)) (g .others) in (
-      sym (take-append-drop 108 t) ∙ ap (λ (x : List ℕ). x ++ drop 108 t) (good-text (take 108 t) (g .good)) ∙ ap (λ (x : List ℕ). rowText (rowIn (take 108 t)) ++ x) (rec .0),
-      rw (good-kept (take 108 t) (g .good), g .alone) (rec .1),
+    let rec = only n (drop rowBytes t) (rw (length-drop rowBytes t) (omega arith)) (g .others) in (
+      sym (take-append-drop rowBytes t) ∙ ap (λ (x : List ℕ). x ++ drop rowBytes t) (good-text (take rowBytes t) (g .good)) ∙ ap (λ (x : List ℕ). rowText (rowIn (take rowBytes t)) ++ x) (rec .0),
+      rw (good-kept (take rowBytes t) (g .good), g .alone) (rec .1),
     )
 
 -- what is known of an accepted text
 pub record Accepted (t : List ℕ) : Type 0 where
-  pub whole : length t ≡ 108 * (length t / 108)
-  pub few : leb (length t / 108) mostGroups ≡ true
-  pub good : rowsGood (length t / 108) t ≡ true
+  pub whole : length t ≡ rowBytes * (length t / rowBytes)
+  pub few : leb (length t / rowBytes) mostGroups ≡ true
+  pub good : rowsGood (length t / rowBytes) t ≡ true
 
 accepted : (t : List ℕ) → isListing t ≡ true → Accepted t
 unfolding isListing
 accepted t h =
-    let a = both (eqb (length t % 108) 0) (leb (length t / 108) mostGroups && rowsGood (length t / 108) t) h in
-    let b = both (leb (length t / 108) mostGroups) (rowsGood (length t / 108) t) (a .1) in
-    let e : length t % 108 ≡ 0 = eqb-true (length t % 108) 0 (a .0) in
-    record { whole = omega (arith, div-add-mod (length t) 108); few = b .0; good = b .1 }
+    let a = both (eqb (length t % rowBytes) 0) (leb (length t / rowBytes) mostGroups && rowsGood (length t / rowBytes) t) h in
+    let b = both (leb (length t / rowBytes) mostGroups) (rowsGood (length t / rowBytes) t) (a .1) in
+    let e : length t % rowBytes ≡ 0 = eqb-true (length t % rowBytes) 0 (a .0) in
+    record { whole = omega (arith, div-add-mod (length t) rowBytes); few = b .0; good = b .1 }
 
 pub listing-only : (t : List ℕ) → isListing t ≡ true → (t ≡ listingText (rowsIn t)) × (listingKept (rowsIn t) ≡ true)
 unfolding rowsIn listingKept
 listing-only t h =
     let a : Accepted t = accepted t h in
-    let o = only (length t / 108) t (a .whole) (a .good) in
-    (o .0, rw (length-rows (length t / 108) t, a .few) (o .1))
+    let o = only (length t / rowBytes) t (a .whole) (a .good) in
+    (o .0, rw (length-rows (length t / rowBytes) t, a .few) (o .1))
 
 -- ---- the rows handed out one after the other
 
 -- what stands at a place is what stands there in the rest of the text
-shift : (t : List ℕ) (at : ℕ) → 108 ≤ length t → stepAt t (108 + at) ≡ stepAt (drop 108 t) at
+shift : (t : List ℕ) (at : ℕ) → rowBytes ≤ length t → stepAt t (rowBytes + at) ≡ stepAt (drop rowBytes t) at
 unfolding stepAt
-shift t at h = go (leb (108 + at + 108) (length t)) refl
+shift t at h = go (leb (rowBytes + at + rowBytes) (length t)) refl
   where
-    p : drop at (drop 108 t) ≡ drop (108 + at) t
-    p = drop-drop at 108 t
+    p : drop at (drop rowBytes t) ≡ drop (rowBytes + at) t
+    p = drop-drop at rowBytes t
 
-    ld : length (drop 108 t) ≡ length t - 108
-    ld = length-drop 108 t
+    ld : length (drop rowBytes t) ≡ length t - rowBytes
+    ld = length-drop rowBytes t
 
-    go : (b : Bool) → leb (108 + at + 108) (length t) ≡ b → stepAt t (108 + at) ≡ stepAt (drop 108 t) at
+    go : (b : Bool) → leb (rowBytes + at + rowBytes) (length t) ≡ b → stepAt t (rowBytes + at) ≡ stepAt (drop rowBytes t) at
     go true e =
-        let f : 108 + at + 108 ≤ length t = leb-true (108 + at + 108) (length t) e in
-        rw (e, p, le-leb (at + 108) (length (drop 108 t)) (omega (arith, ld)))
+        let f : rowBytes + at + rowBytes ≤ length t = leb-true (rowBytes + at + rowBytes) (length t) e in
+        rw (e, p, le-leb (at + rowBytes) (length (drop rowBytes t)) (omega (arith, ld)))
     go false e =
-        let f : length t < 108 + at + 108 = leb-false (108 + at + 108) (length t) e in
-        rw (e, lt-leb (at + 108) (length (drop 108 t)) (omega (arith, ld)))
+        let f : length t < rowBytes + at + rowBytes = leb-false (rowBytes + at + rowBytes) (length t) e in
+        rw (e, lt-leb (at + rowBytes) (length (drop rowBytes t)) (omega (arith, ld)))
 
-rows-at : (n : ℕ) (t : List ℕ) (i : ℕ) (d : Row) → i < n → rowsGood n t ≡ true → length t ≡ 108 * n → stepAt t (108 * i) ≡ Next (getD (rowsFrom n t) i d)
+rows-at : (n : ℕ) (t : List ℕ) (i : ℕ) (d : Row) → i < n → rowsGood n t ≡ true → length t ≡ rowBytes * n → stepAt t (rowBytes * i) ≡ Next (getD (rowsFrom n t) i d)
 unfolding rowsFrom stepAt
 rows-at zero t i d h g l = absurd (omega arith)
-rows-at (suc n) t zero d h g l = rw (le-leb 108 (length t) (omega arith), first-good n t g .good)
+rows-at (suc n) t zero d h g l = rw (le-leb rowBytes (length t) (omega arith), first-good n t g .good)
 rows-at (suc n) t (suc i) d h g l =
-    let e : 108 * suc i ≡ 108 + 108 * i = omega arith in
-    let s : stepAt t (108 + 108 * i) ≡ stepAt (drop 108 t) (108 * i) = shift t (108 * i) (omega arith) in
-    ap (stepAt t) e ∙ s ∙ rows-at n (drop 108 t) i d (omega arith) (first-good n t g .others) (rw (length-drop 108 t) (omega arith))
+    let e : rowBytes * suc i ≡ rowBytes + rowBytes * i = omega arith in
+    let s : stepAt t (rowBytes + rowBytes * i) ≡ stepAt (drop rowBytes t) (rowBytes * i) = shift t (rowBytes * i) (omega arith) in
+    ap (stepAt t) e ∙ s ∙ rows-at n (drop rowBytes t) i d (omega arith) (first-good n t g .others) (rw (length-drop rowBytes t) (omega arith))
 
 -- a checked text hands out its rows in order
-pub hands-out : (t : List ℕ) (i : ℕ) (d : Row) → isListing t ≡ true → i < length (rowsIn t) → stepAt t (108 * i) ≡ Next (getD (rowsIn t) i d)
+pub hands-out : (t : List ℕ) (i : ℕ) (d : Row) → isListing t ≡ true → i < length (rowsIn t) → stepAt t (rowBytes * i) ≡ Next (getD (rowsIn t) i d)
 unfolding rowsIn
 hands-out t i d h l =
     let a : Accepted t = accepted t h in
-    rows-at (length t / 108) t i d (omega (arith, length-rows (length t / 108) t)) (a .good) (a .whole)
+    rows-at (length t / rowBytes) t i d (omega (arith, length-rows (length t / rowBytes) t)) (a .good) (a .whole)
 
 -- and then ends
-pub ends : (t : List ℕ) (i : ℕ) → length (rowsIn t) ≤ i → stepAt t (108 * i) ≡ End
+pub ends : (t : List ℕ) (i : ℕ) → length (rowsIn t) ≤ i → stepAt t (rowBytes * i) ≡ End
 unfolding stepAt rowsIn
 ends t i h =
-    rw (lt-leb (108 * i + 108) (length t) (omega (arith, length-rows (length t / 108) t, div-add-mod (length t) 108, mod-lt (length t) {m = 108} (omega arith))))
+    rw (lt-leb (rowBytes * i + rowBytes) (length t) (omega (arith, length-rows (length t / rowBytes) t, div-add-mod (length t) rowBytes, mod-lt (length t) {m = rowBytes} (omega arith))))
 
 -- a listing that was written is handed out row by row
-pub written-handed-out : (rs : List Row) (i : ℕ) (d : Row) → listingKept rs ≡ true → i < length rs → stepAt (listingText rs) (108 * i) ≡ Next (getD rs i d)
+pub written-handed-out : (rs : List Row) (i : ℕ) (d : Row) → listingKept rs ≡ true → i < length rs → stepAt (listingText rs) (rowBytes * i) ≡ Next (getD rs i d)
 written-handed-out rs i d h l =
     let b = listing-read rs h in
     hands-out (listingText rs) i d (b .0) (rw (b .1) l) ∙ ap (λ (xs : List Row). Next (getD xs i d)) (b .1)
 
 -- by a reader, which checks the whole text first: a listing's rows in order, then the end
-pub hands-out-checked : (t : List ℕ) (i : ℕ) (d : Row) → isListing t ≡ true → i < length (rowsIn t) → stepOf t (108 * i) ≡ Next (getD (rowsIn t) i d)
+pub hands-out-checked : (t : List ℕ) (i : ℕ) (d : Row) → isListing t ≡ true → i < length (rowsIn t) → stepOf t (rowBytes * i) ≡ Next (getD (rowsIn t) i d)
 unfolding stepIn
 hands-out-checked t i d h l = rw h (hands-out t i d h l)
 
-pub ends-checked : (t : List ℕ) (i : ℕ) → isListing t ≡ true → length (rowsIn t) ≤ i → stepOf t (108 * i) ≡ End
+pub ends-checked : (t : List ℕ) (i : ℕ) → isListing t ≡ true → length (rowsIn t) ≤ i → stepOf t (rowBytes * i) ≡ End
 unfolding stepIn
 ends-checked t i h l = rw h (ends t i l)
 
@@ -187,8 +187,8 @@ pub nothing-is-21 : (t : List ℕ) (at : ℕ) → isListing t ≡ false → numb
 nothing-is-21 t at h = rw (hands-nothing t at h)
 
 -- a reader that is at one of a listing's rows moves on to the next place: from 0 it is at 0, 108, 216, ..
-pub moves-on : (t : List ℕ) (i : ℕ) → isListing t ≡ true → i < length (rowsIn t) → nextAt t (108 * i) ≡ 108 * i + 108
+pub moves-on : (t : List ℕ) (i : ℕ) → isListing t ≡ true → i < length (rowsIn t) → nextAt t (rowBytes * i) ≡ rowBytes * i + rowBytes
 unfolding nextAt rowsIn
 moves-on t i h l =
     let a : Accepted t = accepted t h in
-    rw (le-leb (108 * i + 108) (length t) (omega (arith, a .whole, length-rows (length t / 108) t, l)))
+    rw (le-leb (rowBytes * i + rowBytes) (length t) (omega (arith, a .whole, length-rows (length t / rowBytes) t, l)))

@@ -22,7 +22,7 @@ use Rattle.columns.specs.declared.reading.Signed.{Signed}
 use Rattle.rows.specs.Row.{limitsKept, rowKept}
 use Rattle.rows.specs.Kept.{Ruled, ruled}
 use Rattle.rows.specs.declared.Row.{Row}
-use Rattle.listing.specs.Text.{isSet, millionsIn, limitText, rowText, limitOf, rowIn, rowFormed, rowGood}
+use Rattle.listing.specs.Text.{isSet, millionsIn, limitText, rowText, limitOf, rowIn, rowFormed, rowGood, rowBytes}
 
 -- ---- the rules of a row, as what has room in the columns
 
@@ -75,7 +75,7 @@ textOf code class maximum own below net pending bought sold =
     column 5 code ++ column 2 class ++ limitText maximum ++ limitText own ++ signedText 21 below net ++ column 21 pending ++ column 21 bought ++ column 21 sold ++ (10 ∷ [])
 
 record Columns (t : List ℕ) (code class : ℕ) (maximum own : Limit) (below : Bool) (net pending bought sold : ℕ) : Type 0 where
-  size : length t ≡ 108
+  size : length t ≡ rowBytes
   code-at : part t 0 5 ≡ column 5 code
   class-at : part t 5 2 ≡ column 2 class
   maximum-at : part t 7 8 ≡ limitText maximum
@@ -102,7 +102,7 @@ columns-of : (r : Row) → Columns (rowText r) (r .code) (r .class) (r .maximum)
 unfolding rowText
 columns-of r = columns (r .code) (r .class) (r .maximum) (r .own) (r .below) (r .net .0) (r .money .«open» .0) (r .money .bought .0) (r .money .sold .0)
 
-pub length-row : (r : Row) → length (rowText r) ≡ 108
+pub length-row : (r : Row) → length (rowText r) ≡ rowBytes
 length-row r = columns-of r .size
 
 -- ---- what is written is read back
@@ -124,7 +124,7 @@ module _ (t : List ℕ) (at w : ℕ) (h : at + w ≤ length t) where
       same-limit Nothing = refl
       same-limit (At q) = refl
 
-end-there : (t : List ℕ) → length t ≡ 108 → part t 107 1 ≡ 10 ∷ [] → sameAt t 107 (10 ∷ []) ≡ true
+end-there : (t : List ℕ) → length t ≡ rowBytes → part t 107 1 ≡ 10 ∷ [] → sameAt t 107 (10 ∷ []) ≡ true
 unfolding sameAt
 end-there t l e = rw (l, e, same-refl (10 ∷ []))
 
@@ -138,7 +138,7 @@ back r h =
     let t : List ℕ = rowText r in
     let k : Columns t (r .code) (r .class) (r .maximum) (r .own) (r .below) (r .net .0) (r .money .«open» .0) (r .money .bought .0) (r .money .sold .0) = columns-of r in
     let f : Fitting r = fitting r h in
-    let l : length (rowText r) ≡ 108 = length-row r in
+    let l : length (rowText r) ≡ rowBytes = length-row r in
     let code = plain-there t 0 5 (omega arith) (r .code) (k .code-at) (f .code) in
     let class = plain-there t 5 2 (omega arith) (r .class) (k .class-at) (f .class) in
     let maximum = limit-there t 7 8 (omega arith) (r .maximum) (k .maximum-at) (f .maximum) in
@@ -188,7 +188,7 @@ module _ (t : List ℕ) (at w : ℕ) (h : at + w ≤ length t) where
 
 end-text : (t : List ℕ) → sameAt t 107 (10 ∷ []) ≡ true → part t 107 1 ≡ 10 ∷ []
 unfolding sameAt
-end-text t h = same-true (part t 107 1) (10 ∷ []) (both (leb 108 (length t)) (same (part t 107 1) (10 ∷ [])) h .1)
+end-text t h = same-true (part t 107 1) (10 ∷ []) (both (leb rowBytes (length t)) (same (part t 107 1) (10 ∷ [])) h .1)
 
 -- one column more of a text
 grown : (t a b : List ℕ) (m n : ℕ) → take m t ≡ a → part t m n ≡ b → take (m + n) t ≡ a ++ b
@@ -236,7 +236,7 @@ each-formed t h =
       end = a .1 .1 .1 .1 .1 .1 .1 .1;
     }
 
-formed-text : (t : List ℕ) → length t ≡ 108 → rowFormed t ≡ true → t ≡ rowText (rowIn t)
+formed-text : (t : List ℕ) → length t ≡ rowBytes → rowFormed t ≡ true → t ≡ rowText (rowIn t)
 unfolding rowIn rowText
 formed-text t l h =
     let f : Formed t = each-formed t h in
@@ -249,14 +249,14 @@ formed-text t l h =
     let g₇ = grown t _ _ 65 21 g₆ (plain-text t 65 21 (omega arith) (f .bought)) in
     let g₈ = grown t _ _ 86 21 g₇ (plain-text t 86 21 (omega arith) (f .sold)) in
     let g₉ = grown t _ _ 107 1 g₈ (end-text t (f .end)) in
-    sym (take-all 108 t (omega arith)) ∙ g₉
+    sym (take-all rowBytes t (omega arith)) ∙ g₉
 
 module _ (t : List ℕ) (h : rowGood t ≡ true) where
-  parts-good : (length t ≡ 108) × ((rowFormed t ≡ true) × (rowKept (rowIn t) ≡ true))
+  parts-good : (length t ≡ rowBytes) × ((rowFormed t ≡ true) × (rowKept (rowIn t) ≡ true))
   unfolding rowGood
   parts-good =
-      let b = both (eqb (length t) 108) (rowFormed t && rowKept (rowIn t)) h in
-      (eqb-true (length t) 108 (b .0), both (rowFormed t) (rowKept (rowIn t)) (b .1))
+      let b = both (eqb (length t) rowBytes) (rowFormed t && rowKept (rowIn t)) h in
+      (eqb-true (length t) rowBytes (b .0), both (rowFormed t) (rowKept (rowIn t)) (b .1))
 
   pub good-text : t ≡ rowText (rowIn t)
   good-text = formed-text t (parts-good .0) (parts-good .1 .0)

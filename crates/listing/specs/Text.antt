@@ -24,6 +24,10 @@ use Rattle.listing.specs.declared.texts.Step.the-variants.{Next, Broken,
 
 -- ---- one row
 
+-- its bytes: columns of 5, 2, 8, 8, 21, 21, 21, 21, and the line feed
+abbrev pub rowBytes : ℕ
+rowBytes = 108
+
 -- ""-" stands for a maximum of none, and then for own quota"
 abbrev pub isSet : Limit → Bool
 isSet Nothing = false
@@ -67,7 +71,7 @@ rowFormed l =
 
 -- a line is a row: 108 bytes, formed, and "a row obeys" its rules
 unfoldable pub rowGood : List ℕ → Bool
-rowGood l = eqb (length l) 108 && (rowFormed l && rowKept (rowIn l))
+rowGood l = eqb (length l) rowBytes && (rowFormed l && rowKept (rowIn l))
 
 abbrev pub readLine : List ℕ → Line
 readLine l = record { good = rowGood l; row = rowIn l }
@@ -81,7 +85,7 @@ limitsPut d at maximum own = limitPut (limitPut d at maximum) (at + 8) own
 
 -- a row put into a buffer from at on, where it keeps its rules and there is room
 unfoldable pub rowPut : List ℕ → ℕ → Row → List ℕ
-rowPut d at r = pick (rowKept r && holds (length d) at 108) (paste d at (rowText r) 108) d
+rowPut d at r = pick (rowKept r && holds (length d) at rowBytes) (paste d at (rowText r) rowBytes) d
 
 -- ---- rows one after the other
 
@@ -109,18 +113,18 @@ listingKept rs = leb (length rs) mostGroups && rowsKept rs
 -- the first n rows of a text, and whether each is one and none repeats the code and class of another
 unfoldable pub rowsFrom : ℕ → List ℕ → List Row
 rowsFrom zero t = []
-rowsFrom (suc n) t = rowIn (take 108 t) ∷ rowsFrom n (drop 108 t)
+rowsFrom (suc n) t = rowIn (take rowBytes t) ∷ rowsFrom n (drop rowBytes t)
 
 unfoldable pub rowsGood : ℕ → List ℕ → Bool
 rowsGood zero t = true
-rowsGood (suc n) t = rowGood (take 108 t) && (fresh (rowIn (take 108 t)) (rowsFrom n (drop 108 t)) && rowsGood n (drop 108 t))
+rowsGood (suc n) t = rowGood (take rowBytes t) && (fresh (rowIn (take rowBytes t)) (rowsFrom n (drop rowBytes t)) && rowsGood n (drop rowBytes t))
 
 -- the whole text is a listing; the rows that it has
 unfoldable pub isListing : List ℕ → Bool
-isListing t = eqb (length t % 108) 0 && (leb (length t / 108) mostGroups && rowsGood (length t / 108) t)
+isListing t = eqb (length t % rowBytes) 0 && (leb (length t / rowBytes) mostGroups && rowsGood (length t / rowBytes) t)
 
 unfoldable pub rowsIn : List ℕ → List Row
-rowsIn t = rowsFrom (length t / 108) t
+rowsIn t = rowsFrom (length t / rowBytes) t
 
 abbrev pub refusalOfText : List ℕ → ℕ
 refusalOfText t = pick (not (isListing t)) MALFORMED 0
@@ -130,7 +134,7 @@ abbrev pub lineStep : Line → Step
 lineStep l = pick (l .good) (Next (l .row)) Broken
 
 unfoldable pub stepAt : List ℕ → ℕ → Step
-stepAt t at = pick (holds (length t) at 108) (lineStep (readLine (part t at 108))) End
+stepAt t at = pick (holds (length t) at rowBytes) (lineStep (readLine (part t at rowBytes))) End
 
 -- the same by a reader whose text was refused by that number, or by 0: a refused text hands out no row
 unfoldable pub stepIn : List ℕ → ℕ → ℕ → Step
@@ -142,7 +146,7 @@ stepOf t at = stepIn t at (refusalOfText t)
 
 -- the place behind the row at a place, and a reader that has moved on to it
 unfoldable pub nextAt : List ℕ → ℕ → ℕ
-nextAt t at = pick (holds (length t) at 108) (at + 108) at
+nextAt t at = pick (holds (length t) at rowBytes) (at + rowBytes) at
 
 abbrev pub movedOn : ListingReader → ListingReader
 movedOn r = record { text = r .text; at = nextAt (now (r .text)) (r .at); refusal = r .refusal }

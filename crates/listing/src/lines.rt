@@ -5,7 +5,7 @@ ghost use Prim.Native.Nat.{_+_, _≤_};
 ghost use lib.ListN.{length};
 ghost use lib.Seq.{paste};
 ghost use Rattle.rows.specs.Row.{rowKept};
-ghost use Rattle.listing.specs.Text.{limitPut, limitsPut, rowText, rowPut};
+ghost use Rattle.listing.specs.Text.{limitPut, limitsPut, rowText, rowPut, rowBytes};
 use columns::bytes::put_text;
 use decimal::written::put_optional;
 use decimal::written::put_plain;
@@ -44,8 +44,8 @@ fn put_limits(out: &mut [u8], at: usize, maximum: Limit, own: Limit)
 
 // The columns of a row that keeps its rules, so that each has room.
 fn write_row(out: &mut [u8], at: usize, row: Row)
-    requires { ⌜ (at + 108 ≤ length (now out)) × (rowKept row ≡ true) ⌝ }
-    ensures { λ _. ⌜ now (out .exit) ≡ paste (now (out .entry)) at (rowText row) 108 ⌝ }
+    requires { ⌜ (at + rowBytes ≤ length (now out)) × (rowKept row ≡ true) ⌝ }
+    ensures { λ _. ⌜ now (out .exit) ≡ paste (now (out .entry)) at (rowText row) rowBytes ⌝ }
 {
     let maximum = row.maximum;
     let own = row.own;

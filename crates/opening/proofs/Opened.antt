@@ -12,6 +12,8 @@ use Rattle.rules.specs.Limits.{isPlaces}
 use Rattle.rules.specs.Refusals.{UNSOUND, unlessRefused}
 use Rattle.words.specs.Words.{splice, stored}
 use Rattle.claim.specs.Opening.{placesLent, openRefusal, freshRegister, freshBook, openRegister, openBook}
+use Rattle.book.specs.Layout.{bookLength, clearedWords, placeWords}
+use Rattle.register.specs.Layout.{registerLength}
 
 stored-whole : (ws xs : List ℕ) → length ws ≡ length xs → stored ws 0 xs ≡ xs
 unfolding splice
@@ -23,18 +25,18 @@ stored-whole ws xs e =
 
 module _ (rs bs ps : List ℕ) where
   -- a proper opening: every slice has its length
-  pub open-known : openRefusal rs bs ps ≡ 0 → (length rs ≡ 2_000) × (length bs ≡ 194)
+  pub open-known : openRefusal rs bs ps ≡ 0 → (length rs ≡ registerLength) × (length bs ≡ bookLength)
   unfolding openRefusal
-  open-known e = go (eqb (length rs) 2_000 && rest) refl e
+  open-known e = go (eqb (length rs) registerLength && rest) refl e
     where
       rest : Bool
-      rest = eqb (length bs) 194 && (eqb (length ps) (4 * placesLent ps) && isPlaces (placesLent ps))
+      rest = eqb (length bs) bookLength && (eqb (length ps) (placeWords * placesLent ps) && isPlaces (placesLent ps))
 
-      go : (t : Bool) → (eqb (length rs) 2_000 && rest) ≡ t → pick t 0 UNSOUND ≡ 0 → (length rs ≡ 2_000) × (length bs ≡ 194)
+      go : (t : Bool) → (eqb (length rs) registerLength && rest) ≡ t → pick t 0 UNSOUND ≡ 0 → (length rs ≡ registerLength) × (length bs ≡ bookLength)
       go true q z =
-          let a = both (eqb (length rs) 2_000) rest q in
-          let b = both (eqb (length bs) 194) (eqb (length ps) (4 * placesLent ps) && isPlaces (placesLent ps)) (a .1) in
-          (eqb-true (length rs) 2_000 (a .0), eqb-true (length bs) 194 (b .0))
+          let a = both (eqb (length rs) registerLength) rest q in
+          let b = both (eqb (length bs) bookLength) (eqb (length ps) (placeWords * placesLent ps) && isPlaces (placesLent ps)) (a .1) in
+          (eqb-true (length rs) registerLength (a .0), eqb-true (length bs) bookLength (b .0))
       go false q z = absurd (omega arith)
 
   pub open-refused : (r : ℕ) → r ≡ openRefusal rs bs ps → (r ≡ 0 → ⊥) → (r ≡ openRefusal rs bs ps) × ((rs ≡ openRegister rs bs ps) × (bs ≡ openBook rs bs ps))
@@ -51,6 +53,6 @@ module _ (rs bs ps : List ℕ) where
   open-done r xs ys e z x y =
       let q : openRefusal rs bs ps ≡ 0 = sym e ∙ z in
       let k = open-known q in
-      let m : length rs ≡ length freshRegister = k .0 ∙ sym (length-replicate {A = ℕ} 2_000 0) in
-      let n : length bs ≡ length (freshBook (placesLent ps)) = k .1 ∙ sym (ap suc (length-replicate {A = ℕ} 193 0)) in
+      let m : length rs ≡ length freshRegister = k .0 ∙ sym (length-replicate {A = ℕ} registerLength 0) in
+      let n : length bs ≡ length (freshBook (placesLent ps)) = k .1 ∙ sym (ap suc (length-replicate {A = ℕ} clearedWords 0)) in
       rw q (refl, (x ∙ stored-whole rs freshRegister m, y ∙ stored-whole bs (freshBook (placesLent ps)) n))

@@ -30,9 +30,9 @@ pub fn open(register: &mut [u32], book: &mut [u64], places: &[u64]) -> u64
         return refusal;
     }
     let n = places.len() / PLACE_WORDS;
-    let mut fresh = [0u64; 194];
+    let mut fresh = [0u64; BOOK];
     fresh[0] = n as u64;
     store(book, 0, &fresh);
-    store32(register, 0, &[0u32; 2000]);
+    store32(register, 0, &[0u32; REGISTER]);
     0
 }

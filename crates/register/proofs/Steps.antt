@@ -18,7 +18,7 @@ use Rattle.rules.specs.Keyed.{find, isThere, orElse}
 use Rattle.words.specs.Words.{run, splice, run-at, splice-after}
 use Rattle.pairs.specs.Pairs.{placeOf, removedWord}
 use Rattle.pairs.specs.Laws.{place-fits, place-value, place-none, length-removed}
-use Rattle.register.specs.Layout.{unitCount, unitColumn, unitGroupColumn, unitsOf, unitPlace, closedUnits, removeUnit, limitOf, emergencyOf, groupOf, groupAt, limitWord, holderWord, figureWord, wordsOf, place, held, stands, recordAt, putWords, putRecord, putGroup}
+use Rattle.register.specs.Layout.{unitCount, unitColumn, unitGroupColumn, unitsOf, unitPlace, closedUnits, removeUnit, limitOf, emergencyOf, groupOf, groupAt, limitWord, holderWord, figureWord, wordsOf, place, held, stands, recordAt, putWords, putRecord, putGroup, emergencyColumn, firstUnit, firstUnitGroup, holderColumn, recordWords, registerLength}
 use Rattle.register.specs.Records.{here, length-words, length-record, record-word}
 use Rattle.register.specs.Views.{units-is, unit-there, length-column, length-group-column, as-long}
 use Rattle.words.specs.Each.{same}
@@ -51,25 +51,25 @@ pub gathered-none : (ws : List ℕ) (i : ℕ) (r : List ℕ) → Gathered ws i r
 unfolding Gathered
 gathered-none ws i r j h = absurd (omega arith)
 
-pub gathered-turn : (ws : List ℕ) (i : ℕ) (r : List ℕ) (k v : ℕ) → length r ≡ 23 → k < 23 → Gathered ws i r k → v ≡ getD ws (place i k) 0 → Gathered ws i (set r k v) (k + 1)
+pub gathered-turn : (ws : List ℕ) (i : ℕ) (r : List ℕ) (k v : ℕ) → length r ≡ recordWords → k < recordWords → Gathered ws i r k → v ≡ getD ws (place i k) 0 → Gathered ws i (set r k v) (k + 1)
 unfolding Gathered
 gathered-turn ws i r k v n h g e j l =
     same j k
     (λ q. ap (λ z. getD (set r k v) z 0) q ∙ getD-set-same r k v 0 (omega arith) ∙ e ∙ ap (λ z. getD ws (place i z) 0) (sym q))
     (λ q. getD-set-other r k j v 0 q ∙ g j (omega arith))
 
-pub gathered-all : (ws : List ℕ) (i : ℕ) (r : List ℕ) (k : ℕ) → i < 64 → length ws ≡ 2000 → length r ≡ 23 → 23 ≤ k → Gathered ws i r k → r ≡ recordAt ws i
+pub gathered-all : (ws : List ℕ) (i : ℕ) (r : List ℕ) (k : ℕ) → i < 64 → length ws ≡ registerLength → length r ≡ recordWords → recordWords ≤ k → Gathered ws i r k → r ≡ recordAt ws i
 unfolding Gathered
 gathered-all ws i r k h l n m g =
     ext-getD 0 r (recordAt ws i) (n ∙ sym (length-record ws i h l)) (λ j o. g j (omega arith) ∙ sym (record-word ws i j h l (omega arith)))
 
-pub put-step : (ws : List ℕ) (i : ℕ) (g : Group) (us r : List ℕ) → i < 64 → length ws ≡ 2000 → r ≡ wordsOf g → us ≡ putWords ws i r 23 → us ≡ putGroup ws i g
+pub put-step : (ws : List ℕ) (i : ℕ) (g : Group) (us r : List ℕ) → i < 64 → length ws ≡ registerLength → r ≡ wordsOf g → us ≡ putWords ws i r recordWords → us ≡ putGroup ws i g
 unfolding putRecord
-put-step ws i g us r h n e f = rw (here ws i h n) (f ∙ ap (λ z. putWords ws i z 23) e)
+put-step ws i g us r h n e f = rw (here ws i h n) (f ∙ ap (λ z. putWords ws i z recordWords) e)
 
 -- a group's quota from its four words
-pub quota-step : (ws : List ℕ) (i : ℕ) (m o : Limit) (e : Emergency) (a b c d : ℕ) → i < 64 → length ws ≡ 2000
-    → a ≡ getD ws (1680 + i) 0 → b ≡ getD ws (1744 + i) 0 → c ≡ getD ws (1808 + i) 0 → d ≡ getD ws (1872 + i) 0
+pub quota-step : (ws : List ℕ) (i : ℕ) (m o : Limit) (e : Emergency) (a b c d : ℕ) → i < 64 → length ws ≡ registerLength
+    → a ≡ getD ws (1680 + i) 0 → b ≡ getD ws (1744 + i) 0 → c ≡ getD ws (holderColumn + i) 0 → d ≡ getD ws (emergencyColumn + i) 0
     → m ≡ limitOf a → o ≡ limitOf b → e ≡ emergencyOf c d
     → record { maximum = m; own = o; emergency = e } ≡ (groupAt ws i) .quota
 unfolding groupOf place
@@ -77,11 +77,11 @@ quota-step ws i m o e a b c d h l p q r s x y z =
     rw (record-word ws i 2 h l (omega arith), record-word ws i 3 h l (omega arith), record-word ws i 4 h l (omega arith), record-word ws i 5 h l (omega arith), x, y, z, p, q, r, s)
 
 -- the units: a unit found, its group, none
-pub no-units : (ws : List ℕ) → (length ws ≡ 2000 → ⊥) → unitsOf ws ≡ []
+pub no-units : (ws : List ℕ) → (length ws ≡ registerLength → ⊥) → unitsOf ws ≡ []
 unfolding unitsOf
-no-units ws h = rw (ne-eqb (length ws) 2000 h)
+no-units ws h = rw (ne-eqb (length ws) registerLength h)
 
-module _ (ws : List ℕ) (unit k : ℕ) (l : length ws ≡ 2000) (p : k ≡ placeOf (take 256 (drop 1040 ws)) (unitCount ws) unit) where
+module _ (ws : List ℕ) (unit k : ℕ) (l : length ws ≡ registerLength) (p : k ≡ placeOf (take 256 (drop firstUnit ws)) (unitCount ws) unit) where
   pub place-is : k ≡ unitPlace ws unit
   unfolding run
   place-is = p
@@ -96,12 +96,12 @@ module _ (ws : List ℕ) (unit k : ℕ) (l : length ws ≡ 2000) (p : k ≡ plac
       let b : unitPlace ws unit < length (unitColumn ws) = place-fits (unitColumn ws) (unitCount ws) unit (omega arith) in
       omega arith
 
-  pub group-step : k < unitCount ws → getD ws (1296 + k) 0 ≡ orElse 0 (find unit (unitsOf ws))
+  pub group-step : k < unitCount ws → getD ws (firstUnitGroup + k) 0 ≡ orElse 0 (find unit (unitsOf ws))
   group-step h =
       let q = place-is in
       let e : find unit (unitsOf ws) ≡ some (getD (unitGroupColumn ws) (unitPlace ws unit) 0) =
       ap (find unit) (units-is ws l) ∙ place-value (unitColumn ws) (unitGroupColumn ws) (unitCount ws) unit (as-long ws l) (omega arith) in
-      sym (run-at ws 1296 256 k (place-short h)) ∙ ap (λ z. getD (unitGroupColumn ws) z 0) q ∙ ap (orElse 0) (sym e)
+      sym (run-at ws firstUnitGroup 256 k (place-short h)) ∙ ap (λ z. getD (unitGroupColumn ws) z 0) q ∙ ap (orElse 0) (sym e)
 
   pub none-step : unitCount ws ≤ k → 0 ≡ orElse 0 (find unit (unitsOf ws))
   none-step h =
@@ -115,38 +115,38 @@ mid-splice ws ys k n e =
     ap (λ (z : List ℕ). take k ws ++ (ys ++ z)) (drop-drop n k ws ∙ ap (λ m. drop (k + m) ws) (sym e)) ∙ sym (append-assoc (take k ws) ys (drop (k + length ys) ws))
 
 -- two columns closed up leave the length
-pub removed-length : (ws ys zs : List ℕ) (n k x : ℕ) → ys ≡ removedWord (take 256 (drop 1040 ws)) n k → zs ≡ removedWord (take 256 (drop 1296 (putMid 1040 256 ws ys))) n k
-    → length (set (putMid 1296 256 (putMid 1040 256 ws ys) zs) 1 x) ≡ length ws
+pub removed-length : (ws ys zs : List ℕ) (n k x : ℕ) → ys ≡ removedWord (take 256 (drop firstUnit ws)) n k → zs ≡ removedWord (take 256 (drop firstUnitGroup (putMid firstUnit 256 ws ys))) n k
+    → length (set (putMid firstUnitGroup 256 (putMid firstUnit 256 ws ys) zs) 1 x) ≡ length ws
 removed-length ws ys zs n k x e f =
-    length-set (putMid 1296 256 (putMid 1040 256 ws ys) zs) 1 x
-    ∙ same-len-mid 1296 256 (putMid 1040 256 ws ys) zs (ap (λ (z : List ℕ). length z) f ∙ length-removed (take 256 (drop 1296 (putMid 1040 256 ws ys))) n k)
-    ∙ same-len-mid 1040 256 ws ys (ap (λ (z : List ℕ). length z) e ∙ length-removed (take 256 (drop 1040 ws)) n k)
+    length-set (putMid firstUnitGroup 256 (putMid firstUnit 256 ws ys) zs) 1 x
+    ∙ same-len-mid firstUnitGroup 256 (putMid firstUnit 256 ws ys) zs (ap (λ (z : List ℕ). length z) f ∙ length-removed (take 256 (drop firstUnitGroup (putMid firstUnit 256 ws ys))) n k)
+    ∙ same-len-mid firstUnit 256 ws ys (ap (λ (z : List ℕ). length z) e ∙ length-removed (take 256 (drop firstUnit ws)) n k)
 
-module _ (ws : List ℕ) (unit k : ℕ) (l : length ws ≡ 2000) (h : unitCount ws ≤ 256) (p : k ≡ placeOf (take 256 (drop 1040 ws)) (unitCount ws) unit) where
+module _ (ws : List ℕ) (unit k : ℕ) (l : length ws ≡ registerLength) (h : unitCount ws ≤ 256) (p : k ≡ placeOf (take 256 (drop firstUnit ws)) (unitCount ws) unit) where
   pub unit-not-there : unitCount ws ≤ k → ws ≡ removeUnit ws unit
   unfolding removeUnit
   unit-not-there m =
       let q = place-is ws unit k l p in
-      rw (eq-eqb (length ws) 2000 l, le-leb (unitCount ws) 256 h, le-ltb (unitPlace ws unit) (unitCount ws) (omega arith))
+      rw (eq-eqb (length ws) registerLength l, le-leb (unitCount ws) 256 h, le-ltb (unitPlace ws unit) (unitCount ws) (omega arith))
 
-  module _ (m : k < unitCount ws) (us ys zs : List ℕ) (e : ys ≡ removedWord (take 256 (drop 1040 ws)) (unitCount ws) k) (f : us ≡ putMid 1040 256 ws ys) (g : zs ≡ removedWord (take 256 (drop 1296 us)) (unitCount ws) k) where
-    first-half : us ≡ splice ws 1040 (removedWord (unitColumn ws) (unitCount ws) k)
+  module _ (m : k < unitCount ws) (us ys zs : List ℕ) (e : ys ≡ removedWord (take 256 (drop firstUnit ws)) (unitCount ws) k) (f : us ≡ putMid firstUnit 256 ws ys) (g : zs ≡ removedWord (take 256 (drop firstUnitGroup us)) (unitCount ws) k) where
+    first-half : us ≡ splice ws firstUnit (removedWord (unitColumn ws) (unitCount ws) k)
     unfolding run
     first-half =
-        f ∙ mid-splice ws ys 1040 256 (ap (λ (z : List ℕ). length z) e ∙ length-removed (unitColumn ws) (unitCount ws) k ∙ length-column ws l) ∙ ap (splice ws 1040) e
+        f ∙ mid-splice ws ys firstUnit 256 (ap (λ (z : List ℕ). length z) e ∙ length-removed (unitColumn ws) (unitCount ws) k ∙ length-column ws l) ∙ ap (splice ws firstUnit) e
 
     second-half : zs ≡ removedWord (unitGroupColumn ws) (unitCount ws) k
     unfolding run
     second-half =
         let a = length-removed (unitColumn ws) (unitCount ws) k ∙ length-column ws l in
-        g ∙ ap (λ (z : List ℕ). removedWord (run z 1296 256) (unitCount ws) k) first-half
-        ∙ ap (λ (z : List ℕ). removedWord z (unitCount ws) k) (splice-after ws 1040 (removedWord (unitColumn ws) (unitCount ws) k) (omega arith) 1296 256 (omega arith))
+        g ∙ ap (λ (z : List ℕ). removedWord (run z firstUnitGroup 256) (unitCount ws) k) first-half
+        ∙ ap (λ (z : List ℕ). removedWord z (unitCount ws) k) (splice-after ws firstUnit (removedWord (unitColumn ws) (unitCount ws) k) (omega arith) firstUnitGroup 256 (omega arith))
 
-    pub remove-unit-step : set (putMid 1296 256 us zs) 1 (unitCount ws - 1) ≡ removeUnit ws unit
+    pub remove-unit-step : set (putMid firstUnitGroup 256 us zs) 1 (unitCount ws - 1) ≡ removeUnit ws unit
     unfolding removeUnit
     remove-unit-step =
         let q = place-is ws unit k l p in
         let b : length zs ≡ 256 = ap (λ (z : List ℕ). length z) second-half ∙ length-removed (unitGroupColumn ws) (unitCount ws) k ∙ length-group-column ws l in
-        let c : putMid 1296 256 us zs ≡ closedUnits ws k = mid-splice us zs 1296 256 b ∙ ap (λ (z : List ℕ). splice z 1296 zs) first-half ∙ ap (splice (splice ws 1040 (removedWord (unitColumn ws) (unitCount ws) k)) 1296) second-half in
-        rw (eq-eqb (length ws) 2000 l, le-leb (unitCount ws) 256 h, lt-ltb (unitPlace ws unit) (unitCount ws) (omega arith))
+        let c : putMid firstUnitGroup 256 us zs ≡ closedUnits ws k = mid-splice us zs firstUnitGroup 256 b ∙ ap (λ (z : List ℕ). splice z firstUnitGroup zs) first-half ∙ ap (splice (splice ws firstUnit (removedWord (unitColumn ws) (unitCount ws) k)) firstUnitGroup) second-half in
+        rw (eq-eqb (length ws) registerLength l, le-leb (unitCount ws) 256 h, lt-ltb (unitPlace ws unit) (unitCount ws) (omega arith))
         (ap (λ (z : List ℕ). set z 1 (unitCount ws - 1)) (c ∙ ap (closedUnits ws) q))

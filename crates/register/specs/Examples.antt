@@ -6,7 +6,7 @@ use mathlib.Core.Bool.{Bool, true, false}
 use mathlib.Core.List.{List, [], _∷_, _++_}
 use lib.ListN.{getD, set, replicate}
 use Rattle.words.specs.Each.{allBelow}
-use Rattle.register.specs.Layout.{firstUnit, firstUnitGroup}
+use Rattle.register.specs.Layout.{firstUnit, firstUnitGroup, recordWords}
 use Rattle.register.specs.Check.{recordOk, unitOk}
 
 -- code, class, maximum (10,000,000 is none), own quota, holder (99,999 with its withdrawal filed), its figure, eight figures standing, the
@@ -29,7 +29,7 @@ attached unit group = set (set (1 ∷ 1 ∷ replicate 1_998 0) firstUnit unit) f
 pub record Examples : Type 0 where
   pub passes : recordOk greatest ≡ true
   -- the holder's word may be one higher: 200,000, nobody, where there is no figure; and no higher
-  pub refused : above 23 ≡ replicate 23 false
+  pub refused : above recordWords ≡ replicate recordWords false
   pub nobody : (recordOk (set (set greatest 4 200_000) 5 0) ≡ true) × (recordOk (set (set greatest 4 200_000) 5 1) ≡ false) × (recordOk (set (set greatest 4 200_001) 5 0) ≡ false)
   pub class-low : (recordOk (set greatest 1 1) ≡ true) × (recordOk (set greatest 1 0) ≡ false)
   pub unit : (unitOk (attached 99_999 0) 0 ≡ true) × (unitOk (attached 100_000 0) 0 ≡ false) × (unitOk (attached 99_999 1) 0 ≡ false)

@@ -20,7 +20,7 @@ use Rattle.rows.specs.Row.{rowOf}
 use Rattle.rows.specs.declared.Row.{Row}
 use Rattle.rows.specs.declared.RowRead.{RowRead}
 use Rattle.orders.specs.Host.{hostOk}
-use Rattle.listing.specs.Text.{listingKept}
+use Rattle.listing.specs.Text.{listingKept, rowBytes}
 use Rattle.lister.specs.Listed.{gateRows, listRefusal}
 use Rattle.router.specs.Handed.{listedBytes, limitWord, rowLength, rowWords, handedRefusal, handedRow}
 
@@ -43,16 +43,16 @@ fits-room true room k z = go (ltb room k) refl z
 module _ (rs bs ps : List ℕ) (room r : ℕ) (e : r ≡ listRefusal rs bs ps room) where
   pub none-listed : (r ≡ 0 → ⊥) → 0 ≡ listedBytes rs bs ps room
   unfolding listedBytes
-  none-listed n = sym (where-refused (108 * groupsEnrolled rs) 0 (listRefusal rs bs ps room) (λ z. n (e ∙ z)))
+  none-listed n = sym (where-refused (rowBytes * groupsEnrolled rs) 0 (listRefusal rs bs ps room) (λ z. n (e ∙ z)))
 
   module _ (z : r ≡ 0) (n : ℕ) (g : n ≡ groupsEnrolled rs) where
-    pub listed-fits : 108 * n ≤ room
+    pub listed-fits : rowBytes * n ≤ room
     unfolding listRefusal
-    listed-fits = omega (arith, g, fits-room (hostOk rs bs ps && listingKept (gateRows rs bs)) room (108 * groupsEnrolled rs) (sym e ∙ z))
+    listed-fits = omega (arith, g, fits-room (hostOk rs bs ps && listingKept (gateRows rs bs)) room (rowBytes * groupsEnrolled rs) (sym e ∙ z))
 
-    pub all-listed : 108 * n ≡ listedBytes rs bs ps room
+    pub all-listed : rowBytes * n ≡ listedBytes rs bs ps room
     unfolding listedBytes
-    all-listed = ap (λ (x : ℕ). 108 * x) g ∙ sym (where-accepted (108 * groupsEnrolled rs) 0 (listRefusal rs bs ps room) (sym e ∙ z))
+    all-listed = ap (λ (x : ℕ). rowBytes * x) g ∙ sym (where-accepted (rowBytes * groupsEnrolled rs) 0 (listRefusal rs bs ps room) (sym e ∙ z))
 
 -- a row's words stored
 pub row-put : (d out : List ℕ) (r : Row) (m o s : ℕ) → m ≡ limitWord (r .maximum) → o ≡ limitWord (r .own) → s ≡ pick (r .below) 1 0

@@ -13,10 +13,11 @@ use Rattle.quota.specs.Asks.{groupsEnrolled}
 use Rattle.rows.specs.Row.{rowOf}
 use Rattle.rows.specs.declared.Row.{Row}
 use Rattle.lister.specs.Listed.{listRefusal}
+use Rattle.listing.specs.Text.{rowBytes}
 
 -- a listing's bytes, "108 bytes a group"; none where it is refused
 unfoldable pub listedBytes : List ℕ → List ℕ → List ℕ → ℕ → ℕ
-listedBytes rs bs ps room = unlessRefused (listRefusal rs bs ps room) (108 * groupsEnrolled rs) 0
+listedBytes rs bs ps room = unlessRefused (listRefusal rs bs ps room) (rowBytes * groupsEnrolled rs) 0
 
 -- "-" as a word: no quota reaches it
 abbrev pub dash : ℕ

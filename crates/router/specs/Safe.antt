@@ -32,7 +32,7 @@ use Rattle.orders.specs.Host.{hostOk, namedOk}
 use Rattle.orders.specs.Calls.{unlessBroken, orderReads, placeReads, orderBooked, orderRefusal, orderAnswer, orderBook, orderPlaces, fillBooked, fillRefusal, fillBook, fillPlaces, cancelBooked, cancelRefusal, cancelBook, cancelPlaces, closedBook}
 use Rattle.orders.specs.declared.booking.Booked.{Booked}
 use Rattle.rows.specs.Row.{rowRefusal, rowOf}
-use Rattle.listing.specs.Text.{listingKept}
+use Rattle.listing.specs.Text.{listingKept, rowBytes}
 use Rattle.lister.specs.Listed.{gateRows, listRefusal}
 use Rattle.router.specs.Handed.{handedRefusal}
 use Rattle.claim.specs.Step.{Memory, Stepped, memory, bookSound, enrolledBook, step}
@@ -188,7 +188,7 @@ first-refuses false b rules e = refl
 
 pub listing-damaged : (rs bs ps : List ℕ) (room : ℕ) → hostOk rs bs ps ≡ false → listRefusal rs bs ps room ≡ UNSOUND
 unfolding listRefusal
-listing-damaged rs bs ps room e = first-refuses (hostOk rs bs ps) (listingKept (gateRows rs bs)) ((SHORT-BUFFER, ltb room (108 * groupsEnrolled rs)) ∷ []) e
+listing-damaged rs bs ps room e = first-refuses (hostOk rs bs ps) (listingKept (gateRows rs bs)) ((SHORT-BUFFER, ltb room (rowBytes * groupsEnrolled rs)) ∷ []) e
 
 pub row-damaged : (rs bs ps : List ℕ) (group room : ℕ) → hostOk rs bs ps ≡ false → handedRefusal rs bs ps group room ≡ UNSOUND
 unfolding handedRefusal rowOf rowRefusal

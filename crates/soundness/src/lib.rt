@@ -6,12 +6,16 @@ ghost use lib.ListN.{length};
 ghost use Rattle.words.specs.Each.{allBelow};
 ghost use Rattle.register.specs.Check.{unitOk, registerOk};
 ghost use Rattle.register.specs.Columns.{scalarsOk, declaredOk};
+ghost use Rattle.register.specs.Layout.{registerLength};
+use register::layout::CLASS_COLUMN;
+use register::layout::EMERGENCY_COLUMN;
 use register::layout::FIRST_DECLARER;
 use register::layout::FIRST_FIGURE;
 use register::layout::FIRST_SCALAR;
 use register::layout::FIRST_UNIT;
 use register::layout::FIRST_UNIT_GROUP;
 use register::layout::GROUPS;
+use register::layout::HOLDER_COLUMN;
 use register::layout::REGISTER;
 use register::layout::SCALARS;
 use register::layout::UNITS;
@@ -21,7 +25,7 @@ const MOST: [u32; 7] = [99_999, 4, 10_000_000, 10_000_000, 200_000, 9_999_999, 8
 
 // The scalars of group i: at most their greatest values, the class 1 or more, and no figure where nobody holds an emergency.
 fn scalars_ok(register: &[u32], i: usize) -> bool
-    requires { ⌜ (length (now register) ≡ 2000) × (i < 64) ⌝ }
+    requires { ⌜ (length (now register) ≡ registerLength) × (i < 64) ⌝ }
     ensures { λ r. ⌜ r ≡ scalarsOk (now (register .entry)) i ⌝ }
 {
     let most = MOST;
@@ -31,12 +35,13 @@ fn scalars_ok(register: &[u32], i: usize) -> bool
         ok = ok & (register[FIRST_SCALAR + 64 * k + i] <= most[k]);
         k += 1;
     }
-    ((1 <= register[1616 + i]) & !((register[1808 + i] == 200_000) & !(register[1872 + i] == 0)))
+    ((1 <= register[CLASS_COLUMN + i])
+        & !((register[HOLDER_COLUMN + i] == 200_000) & !(register[EMERGENCY_COLUMN + i] == 0)))
         & ok
 }
 
 fn all_scalars_ok(register: &[u32], n: usize) -> bool
-    requires { ⌜ (length (now register) ≡ 2000) × (n ≤ 64) ⌝ }
+    requires { ⌜ (length (now register) ≡ registerLength) × (n ≤ 64) ⌝ }
     ensures { λ r. ⌜ r ≡ allBelow n (scalarsOk (now (register .entry))) ⌝ }
 {
     let mut ok = true;
@@ -50,7 +55,7 @@ fn all_scalars_ok(register: &[u32], n: usize) -> bool
 
 // The first n declarers, counted over all groups, and their figures.
 fn declared_ok(register: &[u32], n: usize) -> bool
-    requires { ⌜ (length (now register) ≡ 2000) × (n ≤ 512) ⌝ }
+    requires { ⌜ (length (now register) ≡ registerLength) × (n ≤ 512) ⌝ }
     ensures { λ r. ⌜ r ≡ allBelow n (declaredOk (now (register .entry))) ⌝ }
 {
     let mut ok = true;
@@ -65,14 +70,14 @@ fn declared_ok(register: &[u32], n: usize) -> bool
 }
 
 fn unit_ok(register: &[u32], k: usize) -> bool
-    requires { ⌜ (length (now register) ≡ 2000) × (k < 256) ⌝ }
+    requires { ⌜ (length (now register) ≡ registerLength) × (k < 256) ⌝ }
     ensures { λ r. ⌜ r ≡ unitOk (now (register .entry)) k ⌝ }
 {
     (register[FIRST_UNIT + k] <= 99_999) & (register[FIRST_UNIT_GROUP + k] < register[GROUPS])
 }
 
 fn units_ok(register: &[u32], n: usize) -> bool
-    requires { ⌜ (length (now register) ≡ 2000) × (n ≤ 256) ⌝ }
+    requires { ⌜ (length (now register) ≡ registerLength) × (n ≤ 256) ⌝ }
     ensures { λ r. ⌜ r ≡ allBelow n (unitOk (now (register .entry))) ⌝ }
 {
     let mut ok = true;

@@ -3,7 +3,7 @@ ghost use mathlib.Core.Path.{_≡_};
 ghost use Prim.Native.Nat.{_+_, _*_, _≤_};
 ghost use lib.ListN.{length, drop};
 ghost use Rattle.columns.specs.Column.{part};
-ghost use Rattle.listing.specs.Text.{rowIn, readLine, fresh, rowsFrom, isListing, refusalOfText, stepAt, stepIn, nextAt};
+ghost use Rattle.listing.specs.Text.{rowIn, readLine, fresh, rowsFrom, isListing, refusalOfText, stepAt, stepIn, nextAt, rowBytes};
 use listing::lines::Line;
 use listing::lines::ROW;
 use listing::texts::Step;
@@ -17,8 +17,8 @@ const MOST_ROWS: usize = 64;
 
 // What the line from at on says.
 fn line_at(text: &[u8], at: usize) -> Line
-    requires { ⌜ at + 108 ≤ length (now text) ⌝ }
-    ensures { λ r. ⌜ r ≡ readLine (part (now (text .entry)) at 108) ⌝ }
+    requires { ⌜ at + rowBytes ≤ length (now text) ⌝ }
+    ensures { λ r. ⌜ r ≡ readLine (part (now (text .entry)) at rowBytes) ⌝ }
 {
     let end = at + ROW;
     let line = &text[at..end];
@@ -27,8 +27,8 @@ fn line_at(text: &[u8], at: usize) -> Line
 
 // Its code alone, and its class alone.
 fn code_at(text: &[u8], at: usize) -> u64
-    requires { ⌜ at + 108 ≤ length (now text) ⌝ }
-    ensures { λ r. ⌜ r ≡ (rowIn (part (now (text .entry)) at 108)) .code ⌝ }
+    requires { ⌜ at + rowBytes ≤ length (now text) ⌝ }
+    ensures { λ r. ⌜ r ≡ (rowIn (part (now (text .entry)) at rowBytes)) .code ⌝ }
 {
     let end = at + ROW;
     let line = &text[at..end];
@@ -37,8 +37,8 @@ fn code_at(text: &[u8], at: usize) -> u64
 }
 
 fn class_at(text: &[u8], at: usize) -> u64
-    requires { ⌜ at + 108 ≤ length (now text) ⌝ }
-    ensures { λ r. ⌜ r ≡ (rowIn (part (now (text .entry)) at 108)) .class ⌝ }
+    requires { ⌜ at + rowBytes ≤ length (now text) ⌝ }
+    ensures { λ r. ⌜ r ≡ (rowIn (part (now (text .entry)) at rowBytes)) .class ⌝ }
 {
     let end = at + ROW;
     let line = &text[at..end];
@@ -48,8 +48,8 @@ fn class_at(text: &[u8], at: usize) -> u64
 
 // Whether none of the rows behind the one at `at`, as many as are left, has its code and class.
 fn fresh_at(text: &[u8], at: usize, left: usize) -> bool
-    requires { ⌜ at + 108 + 108 * left ≤ length (now text) ⌝ }
-    ensures { λ r. ⌜ r ≡ fresh (rowIn (part (now (text .entry)) at 108)) (rowsFrom left (drop (at + 108) (now (text .entry)))) ⌝ }
+    requires { ⌜ at + rowBytes + rowBytes * left ≤ length (now text) ⌝ }
+    ensures { λ r. ⌜ r ≡ fresh (rowIn (part (now (text .entry)) at rowBytes)) (rowsFrom left (drop (at + rowBytes) (now (text .entry)))) ⌝ }
 {
     let code = code_at(text, at);
     let class = class_at(text, at);

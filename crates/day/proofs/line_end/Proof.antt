@@ -6,6 +6,7 @@ use Rattle.day.proofs.Telling.{past-end}
 use borrow.Author.Needs.{needs}
 use Rattle.day.proofs.line_end.Statement.{statement}
 use Rattle.day.proofs.line_end.Tie as tie
+use Rattle.callfile.specs.Lines.{lineBytes}
 
 sub-if1 : tie.Need-sub-if1
 sub-if1 c = search needs
@@ -41,7 +42,7 @@ add-result : tie.Need-add-result
 add-result c = search needs
 
 returns-4 : tie.Need-returns-4
-returns-4 c = (past-end (now (c .before .before .before .before .before .before .args .text)) (c .before .before .before .before .before .before .args .i) 38 (c .before .no-feed .ensures (not-false (c .before .no-feed .result) (c .if3 .left))) (omega arith) (c .before .before .if2 .left), omega arith)
+returns-4 c = (past-end (now (c .before .before .before .before .before .before .args .text)) (c .before .before .before .before .before .before .args .i) lineBytes (c .before .no-feed .ensures (not-false (c .before .no-feed .result) (c .if3 .left))) (omega arith) (c .before .before .if2 .left), omega arith)
 
 pub line-end-spec : {M : Type 1} → statement M
 line-end-spec =

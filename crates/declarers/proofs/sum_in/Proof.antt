@@ -5,15 +5,15 @@ use native.Mathlib.Omega.{arith}
 use lib.ListN.{length, drop, take}
 use Rattle.rules.specs.Limits.{topQuota}
 use Rattle.rules.specs.Money.{millions}
-use Rattle.rules.specs.Sums.{total}
+use Rattle.rules.specs.Sums.{sumOver}
 use Rattle.figures.specs.Figures.{held}
-use Rattle.declarers.proofs.Walk.{total-on, total-end}
+use Rattle.declarers.proofs.Walk.{sum-over-on, sum-over-end}
 use borrow.Author.Needs.{needs}
 use Rattle.declarers.proofs.sum_in.Statement.{statement}
 use Rattle.declarers.proofs.sum_in.Tie as tie
 
 abbrev Inv-loop : tie.InvT-loop
-Inv-loop n quotas sum₀ i₀ sum i = (i ≤ n) × (sum ≤ topQuota * i) × (total held (take n quotas) ≡ sum + total held (drop i (take n quotas)))
+Inv-loop n quotas sum₀ i₀ sum i = (i ≤ n) × (sum ≤ topQuota * i) × (sumOver held (take n quotas) ≡ sum + sumOver held (drop i (take n quotas)))
 
 abbrev μ-loop : tie.MeasureT-loop
 μ-loop n quotas sum₀ i₀ sum i = n - i
@@ -42,12 +42,12 @@ loop-less c = search needs
 loop-again : tie.Need-loop-again Inv-loop μ-loop
 loop-again c =
     let n : length (c .before .before .before .args .t1) ≡ 8 = c .before .before .before .good .0 .1 .0 .1 in
-    omega (arith, total-on (c .before .before .before .args .t1) (c .before .before .before .args .n) (c .before .before .loop .i) (omega arith) held (millions 0) (omega arith))
+    omega (arith, sum-over-on (c .before .before .before .args .t1) (c .before .before .before .args .n) (c .before .before .loop .i) (omega arith) held (millions 0) (omega arith))
 
 returns : tie.Need-returns Inv-loop μ-loop
 returns c =
     let n : length (c .before .before .args .t1) ≡ 8 = c .before .before .good .0 .1 .0 .1 in
-    omega (arith, total-end (c .before .before .args .t1) (c .before .before .args .n) (c .before .loop .i) (omega arith) held (omega arith))
+    omega (arith, sum-over-end (c .before .before .args .t1) (c .before .before .args .n) (c .before .loop .i) (omega arith) held (omega arith))
 
 pub sum-in-spec : {M : Type 1} → statement M
 sum-in-spec =

@@ -9,12 +9,13 @@ use Rattle.register.proofs.Steps.{Gathered, gathered-none, gathered-turn, gathe
 use borrow.Author.Needs.{needs}
 use Rattle.groups.proofs.gathered.Statement.{statement}
 use Rattle.groups.proofs.gathered.Tie as tie
+use Rattle.register.specs.Layout.{recordWords}
 
 abbrev Inv-loop : tie.InvT-loop
-Inv-loop register i r₀ k₀ r k = (k ≤ 23) × (length r ≡ 23) × Gathered register i r k
+Inv-loop register i r₀ k₀ r k = (k ≤ recordWords) × (length r ≡ recordWords) × Gathered register i r k
 
 abbrev μ-loop : tie.MeasureT-loop
-μ-loop register i r₀ k₀ r k = 23 - k
+μ-loop register i r₀ k₀ r k = recordWords - k
 
 loop-holds : tie.Need-loop-holds Inv-loop μ-loop
 loop-holds c = (omega arith, refl, gathered-none _ _ _)

@@ -4,7 +4,7 @@ use mathlib.Core.Path.{_≡_}
 use native.Mathlib.Omega.{arith}
 use denote.Ref.{now}
 use lib.ListN.{length, length-set}
-use Rattle.register.specs.Layout.{putWords}
+use Rattle.register.specs.Layout.{putWords, recordWords, registerLength}
 use Rattle.register.specs.Records.{place-range}
 use Rattle.register.proofs.Steps.{puts-none, puts-turn}
 use borrow.Author.Needs.{needs}
@@ -12,10 +12,10 @@ use Rattle.groups.proofs.scatter.Statement.{statement}
 use Rattle.groups.proofs.scatter.Tie as tie
 
 abbrev Inv-loop : tie.InvT-loop
-Inv-loop register₀ i r k₀ register k = (k ≤ 23) × (length register ≡ 2000) × (register ≡ putWords register₀ i r k)
+Inv-loop register₀ i r k₀ register k = (k ≤ recordWords) × (length register ≡ registerLength) × (register ≡ putWords register₀ i r k)
 
 abbrev μ-loop : tie.MeasureT-loop
-μ-loop register₀ i r k₀ register k = 23 - k
+μ-loop register₀ i r k₀ register k = recordWords - k
 
 loop-holds : tie.Need-loop-holds Inv-loop μ-loop
 loop-holds c = (omega arith, c .before .pre .0, puts-none _ _ _)
@@ -51,7 +51,7 @@ same-length : tie.Need-same-length Inv-loop μ-loop
 same-length c = search needs
 
 returns : tie.Need-returns Inv-loop μ-loop
-returns c = let e : c .before .loop .k ≡ 23 = omega arith in rw e at (c .before .loop .inv .2)
+returns c = let e : c .before .loop .k ≡ recordWords = omega arith in rw e at (c .before .loop .inv .2)
 
 pub scatter-spec : {M : Type 1} → statement M
 scatter-spec =

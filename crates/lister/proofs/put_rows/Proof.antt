@@ -6,7 +6,7 @@ use denote.Ref.{now}
 use lib.ListN.{length}
 use lib.Seq.{paste}
 use Rattle.rows.specs.declared.RowRead.{RowRead}
-use Rattle.listing.specs.Text.{listingText}
+use Rattle.listing.specs.Text.{listingText, rowBytes}
 use Rattle.lister.specs.Listed.{rowsOn}
 use Rattle.lister.proofs.Rows.{put-start, put-step, put-end}
 use borrow.Author.Needs.{needs}
@@ -14,7 +14,7 @@ use Rattle.lister.proofs.put_rows.Statement.{statement}
 use Rattle.lister.proofs.put_rows.Tie as tie
 
 abbrev Inv-loop : tie.InvT-loop
-Inv-loop register book n buffer₀ i₀ buffer i = (i ≤ n) × (length buffer ≡ length buffer₀) × (buffer ≡ paste buffer₀ 0 (listingText (rowsOn register book 0 i)) (108 * i))
+Inv-loop register book n buffer₀ i₀ buffer i = (i ≤ n) × (length buffer ≡ length buffer₀) × (buffer ≡ paste buffer₀ 0 (listingText (rowsOn register book 0 i)) (rowBytes * i))
 
 abbrev μ-loop : tie.MeasureT-loop
 μ-loop register book n buffer₀ i₀ buffer i = n - i

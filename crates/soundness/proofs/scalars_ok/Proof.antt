@@ -8,9 +8,10 @@ use Rattle.register.specs.Columns.{mostScalars, scalarsOk}
 use borrow.Author.Needs.{needs}
 use Rattle.soundness.proofs.scalars_ok.Statement.{statement}
 use Rattle.soundness.proofs.scalars_ok.Tie as tie
+use Rattle.register.specs.Layout.{firstScalar}
 
 abbrev Inv-loop : tie.InvT-loop
-Inv-loop register i most ok₀ k₀ ok k = (k ≤ 7) × (ok ≡ allBelow k (λ z. leb (getD register (1552 + 64 * z + i) 0) (getD mostScalars z 0)))
+Inv-loop register i most ok₀ k₀ ok k = (k ≤ 7) × (ok ≡ allBelow k (λ z. leb (getD register (firstScalar + 64 * z + i) 0) (getD mostScalars z 0)))
 
 abbrev μ-loop : tie.MeasureT-loop
 μ-loop register i most ok₀ k₀ ok k = 7 - k

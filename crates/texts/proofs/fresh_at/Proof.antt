@@ -5,14 +5,14 @@ use denote.Ref.{now}
 use native.Mathlib.Omega.{arith}
 use lib.ListN.{length, drop}
 use Rattle.columns.specs.Column.{part}
-use Rattle.listing.specs.Text.{rowIn, fresh, rowsFrom}
+use Rattle.listing.specs.Text.{rowIn, fresh, rowsFrom, rowBytes}
 use Rattle.texts.proofs.Turns.{fresh-step, fresh-fail, fresh-end}
 use borrow.Author.Needs.{needs}
 use Rattle.texts.proofs.fresh_at.Statement.{statement}
 use Rattle.texts.proofs.fresh_at.Tie as tie
 
 abbrev Inv-loop : tie.InvT-loop
-Inv-loop text at left code class more₀ place₀ more place = (place + 108 * more ≤ length text) × (fresh (rowIn (part text at 108)) (rowsFrom left (drop (at + 108) text)) ≡ fresh (rowIn (part text at 108)) (rowsFrom more (drop place text)))
+Inv-loop text at left code class more₀ place₀ more place = (place + rowBytes * more ≤ length text) × (fresh (rowIn (part text at rowBytes)) (rowsFrom left (drop (at + rowBytes) text)) ≡ fresh (rowIn (part text at rowBytes)) (rowsFrom more (drop place text)))
 
 abbrev μ-loop : tie.MeasureT-loop
 μ-loop text at left code class more₀ place₀ more place = more
@@ -36,7 +36,7 @@ class-at-requires-2 : tie.Need-class-at-requires-2 Inv-loop μ-loop
 class-at-requires-2 c κs = search needs
 
 returns : tie.Need-returns Inv-loop μ-loop
-returns c = sym (fresh-fail (now (c .before .before .before .before .before .before .before .before .args .text)) (rowIn (part (now (c .before .before .before .before .before .before .before .before .args .text)) (c .before .before .before .before .before .before .before .before .args .at) 108)) (c .before .before .before .before .loop .place) (c .before .before .before .before .loop .more) (c .before .before .before .before .before .before .code-at .result) (c .before .before .before .before .before .class-at .result) (c .before .before .code-at2 .result) (c .before .class-at2 .result) (fresh (rowIn (part (now (c .before .before .before .before .before .before .before .before .args .text)) (c .before .before .before .before .before .before .before .before .args .at) 108)) (rowsFrom (c .before .before .before .before .before .before .before .before .args .left) (drop (c .before .before .before .before .before .before .before .before .args .at + 108) (now (c .before .before .before .before .before .before .before .before .args .text))))) (c .before .before .before .loop-test .taken) (c .before .before .before .before .before .before .code-at .ensures) (c .before .before .before .before .before .class-at .ensures) (c .before .before .code-at2 .ensures) (c .before .class-at2 .ensures) (c .before .before .before .before .loop .inv .1) (c .if1 .taken))
+returns c = sym (fresh-fail (now (c .before .before .before .before .before .before .before .before .args .text)) (rowIn (part (now (c .before .before .before .before .before .before .before .before .args .text)) (c .before .before .before .before .before .before .before .before .args .at) rowBytes)) (c .before .before .before .before .loop .place) (c .before .before .before .before .loop .more) (c .before .before .before .before .before .before .code-at .result) (c .before .before .before .before .before .class-at .result) (c .before .before .code-at2 .result) (c .before .class-at2 .result) (fresh (rowIn (part (now (c .before .before .before .before .before .before .before .before .args .text)) (c .before .before .before .before .before .before .before .before .args .at) rowBytes)) (rowsFrom (c .before .before .before .before .before .before .before .before .args .left) (drop (c .before .before .before .before .before .before .before .before .args .at + rowBytes) (now (c .before .before .before .before .before .before .before .before .args .text))))) (c .before .before .before .loop-test .taken) (c .before .before .before .before .before .before .code-at .ensures) (c .before .before .before .before .before .class-at .ensures) (c .before .before .code-at2 .ensures) (c .before .class-at2 .ensures) (c .before .before .before .before .loop .inv .1) (c .if1 .taken))
 
 add-place-2 : tie.Need-add-place-2 Inv-loop μ-loop
 add-place-2 c = search needs
@@ -48,10 +48,10 @@ loop-less : tie.Need-loop-less Inv-loop μ-loop
 loop-less c = search needs
 
 loop-again : tie.Need-loop-again Inv-loop μ-loop
-loop-again c = (omega arith, fresh-step (now (c .before .before .before .before .before .before .before .before .args .text)) (rowIn (part (now (c .before .before .before .before .before .before .before .before .args .text)) (c .before .before .before .before .before .before .before .before .args .at) 108)) (c .before .before .before .before .loop .place) (c .before .before .before .before .loop .more) (c .before .before .before .before .before .before .code-at .result) (c .before .before .before .before .before .class-at .result) (c .before .before .code-at2 .result) (c .before .class-at2 .result) (fresh (rowIn (part (now (c .before .before .before .before .before .before .before .before .args .text)) (c .before .before .before .before .before .before .before .before .args .at) 108)) (rowsFrom (c .before .before .before .before .before .before .before .before .args .left) (drop (c .before .before .before .before .before .before .before .before .args .at + 108) (now (c .before .before .before .before .before .before .before .before .args .text))))) (c .before .before .before .loop-test .taken) (c .before .before .before .before .before .before .code-at .ensures) (c .before .before .before .before .before .class-at .ensures) (c .before .before .code-at2 .ensures) (c .before .class-at2 .ensures) (c .before .before .before .before .loop .inv .1) (c .if1 .left))
+loop-again c = (omega arith, fresh-step (now (c .before .before .before .before .before .before .before .before .args .text)) (rowIn (part (now (c .before .before .before .before .before .before .before .before .args .text)) (c .before .before .before .before .before .before .before .before .args .at) rowBytes)) (c .before .before .before .before .loop .place) (c .before .before .before .before .loop .more) (c .before .before .before .before .before .before .code-at .result) (c .before .before .before .before .before .class-at .result) (c .before .before .code-at2 .result) (c .before .class-at2 .result) (fresh (rowIn (part (now (c .before .before .before .before .before .before .before .before .args .text)) (c .before .before .before .before .before .before .before .before .args .at) rowBytes)) (rowsFrom (c .before .before .before .before .before .before .before .before .args .left) (drop (c .before .before .before .before .before .before .before .before .args .at + rowBytes) (now (c .before .before .before .before .before .before .before .before .args .text))))) (c .before .before .before .loop-test .taken) (c .before .before .before .before .before .before .code-at .ensures) (c .before .before .before .before .before .class-at .ensures) (c .before .before .code-at2 .ensures) (c .before .class-at2 .ensures) (c .before .before .before .before .loop .inv .1) (c .if1 .left))
 
 returns-2 : tie.Need-returns-2 Inv-loop μ-loop
-returns-2 c = sym (c .before .loop .inv .1 ∙ fresh-end (rowIn (part (now (c .before .before .before .before .before .args .text)) (c .before .before .before .before .before .args .at) 108)) (c .before .loop .more) (drop (c .before .loop .place) (now (c .before .before .before .before .before .args .text))) (c .loop-test .left))
+returns-2 c = sym (c .before .loop .inv .1 ∙ fresh-end (rowIn (part (now (c .before .before .before .before .before .args .text)) (c .before .before .before .before .before .args .at) rowBytes)) (c .before .loop .more) (drop (c .before .loop .place) (now (c .before .before .before .before .before .args .text))) (c .loop-test .left))
 
 pub fresh-at-spec : {M : Type 1} → statement M
 fresh-at-spec =

@@ -6,14 +6,14 @@ use denote.Ref.{now}
 use native.Mathlib.Nat.{div-add-mod}
 use native.Mathlib.Omega.{arith}
 use lib.ListN.{length, drop}
-use Rattle.listing.specs.Text.{rowsGood}
+use Rattle.listing.specs.Text.{rowsGood, rowBytes}
 use Rattle.texts.proofs.Turns.{good-step, good-fail, good-repeat, good-end, listing-is, listing-long, listing-odd}
 use borrow.Author.Needs.{needs}
 use Rattle.texts.proofs.is_listing.Statement.{statement}
 use Rattle.texts.proofs.is_listing.Tie as tie
 
 abbrev Inv-loop : tie.InvT-loop
-Inv-loop text left₀ at₀ left at = (at + 108 * left ≡ length text) × (rowsGood (length text / 108) text ≡ rowsGood left (drop at text))
+Inv-loop text left₀ at₀ left at = (at + rowBytes * left ≡ length text) × (rowsGood (length text / rowBytes) text ≡ rowsGood left (drop at text))
 
 abbrev μ-loop : tie.MeasureT-loop
 μ-loop text left₀ at₀ left at = left
@@ -25,7 +25,7 @@ returns-2 : tie.Need-returns-2 Inv-loop μ-loop
 returns-2 c = listing-long (now (c .before .before .before .args .text)) (c .before .if1 .left) (c .if2 .taken)
 
 loop-holds : tie.Need-loop-holds Inv-loop μ-loop
-loop-holds c = (omega (arith, div-add-mod (length (now (c .before .before .before .args .text))) 108, c .before .if1 .left), refl)
+loop-holds c = (omega (arith, div-add-mod (length (now (c .before .before .before .args .text))) rowBytes, c .before .if1 .left), refl)
 
 sub-left : tie.Need-sub-left Inv-loop μ-loop
 sub-left c = search needs

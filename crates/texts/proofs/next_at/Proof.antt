@@ -7,17 +7,17 @@ use native.Mathlib.Omega.{arith}
 use borrow.Author.Needs.{needs}
 use borrow.Author.Tests.{le-leb, lt-leb}
 use lib.ListN.{length}
-use Rattle.listing.specs.Text.{nextAt}
+use Rattle.listing.specs.Text.{nextAt, rowBytes}
 use Rattle.texts.proofs.next_at.Statement.{statement}
 use Rattle.texts.proofs.next_at.Tie as tie
 
-stays : (t : List ℕ) (at : ℕ) → length t < at + 108 → at ≡ nextAt t at
+stays : (t : List ℕ) (at : ℕ) → length t < at + rowBytes → at ≡ nextAt t at
 unfolding nextAt
-stays t at h = rw (lt-leb (at + 108) (length t) h)
+stays t at h = rw (lt-leb (at + rowBytes) (length t) h)
 
-moves : (t : List ℕ) (at : ℕ) → at + 108 ≤ length t → at + 108 ≡ nextAt t at
+moves : (t : List ℕ) (at : ℕ) → at + rowBytes ≤ length t → at + rowBytes ≡ nextAt t at
 unfolding nextAt
-moves t at h = rw (le-leb (at + 108) (length t) h)
+moves t at h = rw (le-leb (at + rowBytes) (length t) h)
 
 returns : tie.Need-returns
 returns c = stays (now (c .before .args .text)) (c .before .args .at) (omega arith)
