@@ -29,7 +29,8 @@ fn put_words(out: &mut [u8], at: usize, w: Words)
     put_plain(out, at + 29, 9, w.fourth);
 }
 
-// The call as a line from at on; nothing where it does not fit, in the buffer or in its columns.
+// The call as a line from at on; nothing where it does not fit, in the buffer or in its columns. It has no number to refuse by: a caller that writes
+// call files lends 39 bytes a line and takes fields of at most nine digits.
 pub fn put_call(out: &mut [u8], at: usize, call: Call)
     ensures { λ _. ⌜ now (out .exit) ≡ callPut (now (out .entry)) at call ⌝ }
 {
@@ -50,7 +51,8 @@ fn answer_fits(answer: Answer) -> bool
     fits(3, answer.refusal) & fits(6, answer.number)
 }
 
-// "the refusal number or 0 in 3 columns and the group or order number given (else 0) in 6, line feed"; nothing where it does not fit.
+// "the refusal number or 0 in 3 columns and the group or order number given (else 0) in 6, line feed"; nothing where it does not fit. It
+// has no number to refuse by: `day` has ten bytes of room for it, and has held the answer to its columns.
 pub fn put_answer(out: &mut [u8], at: usize, answer: Answer)
     ensures { λ _. ⌜ now (out .exit) ≡ answerPut (now (out .entry)) at answer ⌝ }
 {

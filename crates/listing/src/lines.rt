@@ -64,7 +64,8 @@ fn write_row(out: &mut [u8], at: usize, row: Row)
     put_text(out, at + 107, b"\n");
 }
 
-// The row as a line from at on; nothing where it breaks its rules or has no room.
+// The row as a line from at on; nothing where it breaks its rules or has no room. It has no number to refuse by: `lister::write` has refused such a
+// row by 1 and such a buffer by 22 before the first row is put.
 pub fn put_row(out: &mut [u8], at: usize, row: Row)
     ensures { λ _. ⌜ now (out .exit) ≡ rowPut (now (out .entry)) at row ⌝ }
 {

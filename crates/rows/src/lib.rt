@@ -198,7 +198,8 @@ fn refusal_of_row(register: &[u32], book: &[u64], places: &[u64], group: u64) ->
     first(!host_ok(register, book, places), UNSOUND, r)
 }
 
-// The row that a group's words say, whether or not the rest of the memory is sound: for callers that have checked it once for all groups.
+// The row that a group's words say, whether or not the rest of the memory is sound and the group enrolled: `row_of` and `lister::write` have refused by
+// 1, and by 2 and 6, before. A listing of 64 rows would check the memory 64 times otherwise.
 pub fn row_at(register: &[u32], book: &[u64], group: u64) -> RowRead
     ensures { λ r. ⌜ r ≡ rowAt (now (register .entry)) (now (book .entry)) group ⌝ }
 {
