@@ -1,9 +1,10 @@
 -- A book is its figures and places are their orders' figures: memory of the same length that reads alike is the same, word for word. So no
--- word of a book or of a place stands for nothing, and none is read twice. Assumes nothing.
+-- word of a book or of a place stands for nothing, and none is read twice. And what is put into two memories alike leaves them alike. Assumes nothing.
 use Prim.Native.Nat.{ℕ, zero, suc, _+_, _*_, _-_, _≤_, _<_}
 use mathlib.Core.Path.{_≡_, refl, sym, ap, _∙_}
 use mathlib.Core.Bool.{Bool, true, false}
 use mathlib.Core.List.{List}
+use native.Mathlib.Numerals.{add-one}
 use native.Mathlib.Omega.{arith}
 use borrow.Author.Tests.{ltb-true, ltb-false}
 use lib.Dec.{ltb}
@@ -12,9 +13,10 @@ use lib.Seq.{ext-getD}
 use Rattle.rules.specs.Limits.{topOrder, mostGroups}
 use Rattle.rules.specs.Money.{mils}
 use Rattle.rules.specs.declared.kinds.Money.{Money}
-use Rattle.book.specs.Layout.{bookLength, placesOf, acceptedOf, moneyBase, moneyAt, placeBase, placeAt}
+use Rattle.book.specs.Layout.{bookLength, placesOf, acceptedOf, moneyBase, moneyAt, placeBase, placeAt, putPlace, putOpen}
 use Rattle.book.specs.Known.{money-is}
-use Rattle.book.specs.Laws.{place-is}
+use Rattle.words.specs.Each.{same}
+use Rattle.book.specs.Laws.{reach, place-is, place-words, place-word, place-same, open-word, open-same, length-put-place, length-put-open}
 use Rattle.book.specs.declared.places.Place.{Place}
 
 -- what holds of w words of each of n records holds of every word
@@ -73,7 +75,7 @@ book-alike vs bs l n a b m =
 abbrev placeWords : List ℕ → ℕ → Place
 placeWords ps k = record { group = getD ps (placeBase k) 0; kind = getD ps (placeBase k + 1) 0; price = mils (getD ps (placeBase k + 2) 0); «open» = getD ps (placeBase k + 3) 0 }
 
-place-alike : (vs ps : List ℕ) (k i : ℕ) → k < topOrder → i < 4 → placeAt vs (suc k) ≡ placeAt ps (suc k) → AlikeAt vs ps (4 * k + i)
+pub place-alike : (vs ps : List ℕ) (k i : ℕ) → k < topOrder → i < 4 → placeAt vs (suc k) ≡ placeAt ps (suc k) → AlikeAt vs ps (4 * k + i)
 place-alike vs ps k i l q e = go i q
   where
     m : placeWords vs (suc k) ≡ placeWords ps (suc k)
@@ -91,3 +93,44 @@ pub places-alike : (vs ps : List ℕ) (N : ℕ) → N ≤ topOrder → length vs
 places-alike vs ps N n l m f =
     ext-getD 0 vs ps (l ∙ sym m)
     (λ i h. strides (AlikeAt vs ps) 4 N (λ k j p q. place-alike vs ps k j (omega arith) q (f (suc k) (omega arith) (omega arith))) i (omega arith))
+
+-- ---- what is put into places of one length, alike up to order n
+
+-- places of one length, with the same words of the orders 1 to n; what stands above is anything
+pub record AlikeBelow (n : ℕ) (vs ps : List ℕ) : Type 0 where
+  pub lengths : length vs ≡ length ps
+  pub words : (i : ℕ) → i < 4 * n → AlikeAt vs ps i
+
+pub place-below : (n : ℕ) (vs ps : List ℕ) (k : ℕ) → AlikeBelow n vs ps → 1 ≤ k → k ≤ n → placeAt vs k ≡ placeAt ps k
+place-below n vs ps k a h l = place-words vs ps k (λ i p q. a .words i (omega arith))
+
+module _ (n : ℕ) (vs ps : List ℕ) (a : AlikeBelow n vs ps) where
+  -- the next place
+  pub put-place-below : (p : Place) → n < topOrder → 4 * (n + 1) ≤ length ps → AlikeBelow (n + 1) (putPlace vs (n + 1) p) (putPlace ps (n + 1) p)
+  put-place-below p h l = record {
+    lengths = length-put-place vs (n + 1) p ∙ a .lengths ∙ sym (length-put-place ps (n + 1) p);
+    words = λ i o.
+        reach i (4 * n)
+        (λ b. place-word vs (n + 1) p i (λ c. absurd (omega arith)) ∙ a .words i b ∙ sym (place-word ps (n + 1) p i (λ c. absurd (omega arith))))
+        (λ b.
+        let s : placeAt (putPlace vs (n + 1) p) (suc n) ≡ placeAt (putPlace ps (n + 1) p) (suc n) =
+        rw (← add-one n) (place-same vs (n + 1) p (omega arith) (omega arith) (omega (arith, a .lengths)) ∙ sym (place-same ps (n + 1) p (omega arith) (omega arith) l)) in
+        alike-at (putPlace vs (n + 1) p) (putPlace ps (n + 1) p) i (4 * n + (i - 4 * n)) (omega arith) (place-alike (putPlace vs (n + 1) p) (putPlace ps (n + 1) p) n (i - 4 * n) h (omega arith) s));
+  }
+
+  -- the open quantity of one of the orders 1 to n
+  pub put-open-below : (k q : ℕ) → 1 ≤ k → k ≤ n → n ≤ topOrder → 4 * n ≤ length ps → AlikeBelow n (putOpen vs k q) (putOpen ps k q)
+  put-open-below k q h o t l = record {
+    lengths = length-put-open vs k q ∙ a .lengths ∙ sym (length-put-open ps k q);
+    words = λ i m.
+        same i (placeBase k + 3)
+        (λ e. rw e (last))
+        (λ d. open-word vs k q i d ∙ a .words i m ∙ sym (open-word ps k q i d));
+  }
+    where
+      last : AlikeAt (putOpen vs k q) (putOpen ps k q) (placeBase k + 3)
+      last =
+          let x = open-same vs k q h (omega arith) (omega (arith, a .lengths)) in
+          let y = open-same ps k q h (omega arith) (omega arith) in
+          ap (λ (p : Place). p .«open») (sym (place-is (putOpen vs k q) k h (omega arith)) ∙ x)
+          ∙ ap (λ (p : Place). p .«open») (sym y ∙ place-is (putOpen ps k q) k h (omega arith))
