@@ -2,7 +2,7 @@
 -- And which words of the places a call may write: "It writes that place alone; a fill or cancel changes only the open quantity in its order's
 -- place; no other call, opening and close included, writes a place." Assumes nothing.
 use Prim.{tt}
-use Prim.Native.Nat.{ℕ, zero, suc, _+_, _*_, _-_, _≤_, _<_}
+use Prim.Native.Nat.{ℕ, zero, suc, _+_, _*_, _-_, _≤_}
 use mathlib.Core.Path.{_≡_, refl, sym, ap, subst, _∙_}
 use mathlib.Core.Bool.{Bool, true, false, not, _&&_}
 use mathlib.Core.Logic.{_≢_}
@@ -10,7 +10,6 @@ use mathlib.Core.List.{List, [], _∷_}
 use native.Mathlib.Omega.{arith}
 use lib.ListN.{length, getD}
 use Rattle.rules.specs.Tests.{pick, within-true}
-use Rattle.rules.specs.Limits.{topOrder}
 use Rattle.rules.specs.Orders.{Rule}
 use Rattle.rules.specs.Calls.{inRange, accepted, refused}
 use Rattle.rules.specs.Refusals.{UNSOUND, unlessRefused, answered}
@@ -23,11 +22,11 @@ use Rattle.rules.specs.declared.calls.Answer.{Answer}
 use Rattle.quota.specs.Asks.{groupsEnrolled, groupOfUnit}
 use Rattle.quota.specs.Calls.{enrolRefusal, enrolAnswer, enrolAfter, attachRefusal, attachAfter, detachRefusal, detachAfter, regularRefusal, regularAfter, raiseRefusal, raiseAfter, withdrawRefusal, withdrawAfter, ownQuotaRefusal, ownQuotaAfter, closeRefusal, closeAfter}
 use Rattle.book.specs.declared.places.Place.{Place}
-use Rattle.book.specs.Layout.{bookLength, placesOf, acceptedOf, noMoney, moneyAt, putMoney, placeBase, placeAt, putPlace, putOpen}
+use Rattle.book.specs.Layout.{bookLength, acceptedOf, noMoney, moneyAt, putMoney, placeBase, placeAt, putPlace, putOpen}
 use Rattle.book.specs.Check.{bookOk}
 use Rattle.book.specs.Known.{book-known}
 use Rattle.book.specs.Laws.{accepted-of-put, accepted-of-closed, place-word, open-word}
-use Rattle.book.specs.Alike.{AlikeAt, AlikeBelow, place-below, put-place-below, put-open-below}
+use Rattle.book.specs.Alike.{AlikeBelow, place-below, put-place-below, put-open-below}
 use Rattle.orders.specs.Host.{hostOk, isGiven, namedOk}
 use Rattle.orders.specs.Clear.{PlaceClear}
 use Rattle.orders.specs.Booking.{filledMoney, cancelledMoney}

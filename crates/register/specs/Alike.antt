@@ -1,6 +1,6 @@
 -- A register is its groups and units, and words that stand for nothing: registers in range that read alike, with the same words that stand for
 -- nothing, are the same, word for word. Assumes nothing.
-use Prim.Native.Nat.{ℕ, zero, suc, _+_, _*_, _-_, _/_, _%_, _≤_, _<_, min}
+use Prim.Native.Nat.{ℕ, zero, suc, _+_, _-_, _/_, _%_, _≤_, _<_}
 use mathlib.Core.Path.{_≡_, refl, ap, sym, _∙_}
 use mathlib.Core.Bool.{true}
 use mathlib.Core.List.{List, [], _∷_}
@@ -14,11 +14,11 @@ use Rattle.words.specs.Words.{run-at}
 use Rattle.pairs.specs.Pairs.{pairsOf}
 use Rattle.figures.specs.Figures.{standingOf}
 use Rattle.figures.specs.Places.{pairs, length-pairs}
-use Rattle.register.specs.Layout.{registerLength, groupCount, unitCount, place, firstUnit, firstUnitGroup, atDeclarers, atQuotas, limitWord, holderWord, figureWord, eightOf, quotasOf, figuresOf, groupOf, wordsOf, recordAt, groupAt, unitColumn, unitGroupColumn, unitsOf}
+use Rattle.register.specs.Layout.{registerLength, groupCount, unitCount, place, firstUnit, firstUnitGroup, atDeclarers, atQuotas, limitWord, holderWord, figureWord, figuresOf, groupOf, wordsOf, recordAt, groupAt, unitColumn, unitGroupColumn, unitsOf}
 use Rattle.register.specs.Check.{registerOk, recordOk}
 use Rattle.register.specs.Records.{part, record-word, length-record}
 use Rattle.register.specs.Views.{units-is, length-column, length-group-column, length-units}
-use Rattle.register.specs.Sound.{reach, InRange, in-range, Sound, known, words-back}
+use Rattle.register.specs.Sound.{reach, in-range, Sound, known, words-back}
 use Rattle.register.specs.declared.groups.Group.{Group}
 
 module _ (vs ws : List ℕ) where
