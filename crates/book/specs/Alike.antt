@@ -16,6 +16,7 @@ use Rattle.rules.specs.declared.kinds.Money.{Money}
 use Rattle.book.specs.Layout.{bookLength, placesOf, acceptedOf, moneyBase, moneyAt, placeBase, placeAt, putPlace, putOpen}
 use Rattle.book.specs.Known.{money-is}
 use Rattle.words.specs.Each.{same}
+use Rattle.words.specs.Alike.{AlikeAt, alike-at}
 use Rattle.book.specs.Laws.{reach, place-is, place-words, place-word, place-same, open-word, open-same, length-put-place, length-put-open}
 use Rattle.book.specs.declared.places.Place.{Place}
 
@@ -32,14 +33,6 @@ strides P w (suc n) h j l = go (ltb j (w * n)) refl (strides P w n (λ k i a b. 
         let r : j - w * n < w = omega arith in
         rw q at (h n (j - w * n) (omega arith) r)
 
-module _ (vs ws : List ℕ) where
-  -- two memories have the same word
-  abbrev pub AlikeAt : ℕ → Type 0
-  AlikeAt i = getD vs i 0 ≡ getD ws i 0
-
-  alike-at : (i j : ℕ) → j ≡ i → AlikeAt j → AlikeAt i
-  alike-at i j e a = rw e at a
-
 -- ---- a book
 
 -- the two words of its header, and the three of each group
@@ -49,13 +42,13 @@ book-words vs bs a b m (suc zero) l = b
 book-words vs bs a b m (suc (suc j)) l = alike-at vs bs (suc (suc j)) (2 + j) (omega arith) (m j (omega arith))
 
 -- the three words of a group's money, as they are read
-abbrev moneyWords : List ℕ → ℕ → Money
-moneyWords bs g = record { «open» = mils (getD bs (moneyBase g) 0); bought = mils (getD bs (moneyBase g + 1) 0); sold = mils (getD bs (moneyBase g + 2) 0) }
+abbrev moneyRead : List ℕ → ℕ → Money
+moneyRead bs g = record { «open» = mils (getD bs (moneyBase g) 0); bought = mils (getD bs (moneyBase g + 1) 0); sold = mils (getD bs (moneyBase g + 2) 0) }
 
 money-alike : (vs bs : List ℕ) (g i : ℕ) → g < mostGroups → i < 3 → moneyAt vs g ≡ moneyAt bs g → AlikeAt vs bs (2 + (3 * g + i))
 money-alike vs bs g i l q e = go i q
   where
-    m : moneyWords vs g ≡ moneyWords bs g
+    m : moneyRead vs g ≡ moneyRead bs g
     m = sym (money-is vs g l) ∙ e ∙ money-is bs g l
 
     go : (j : ℕ) → j < 3 → AlikeAt vs bs (2 + (3 * g + j))
@@ -64,21 +57,21 @@ money-alike vs bs g i l q e = go i q
     go (suc (suc zero)) z = alike-at vs bs (2 + (3 * g + 2)) (moneyBase g + 2) (omega arith) (ap (λ (x : Money). x .sold .0) m)
     go (suc (suc (suc j))) z = absurd (omega arith)
 
-pub book-alike : (vs bs : List ℕ) → length vs ≡ bookLength → length bs ≡ bookLength → placesOf vs ≡ placesOf bs → acceptedOf vs ≡ acceptedOf bs → ((g : ℕ) → moneyAt vs g ≡ moneyAt bs g) → vs ≡ bs
+pub book-alike : (vs bs : List ℕ) → length vs ≡ bookLength → length bs ≡ bookLength → placesOf vs ≡ placesOf bs → acceptedOf vs ≡ acceptedOf bs → ((g : ℕ) → g < mostGroups → moneyAt vs g ≡ moneyAt bs g) → vs ≡ bs
 book-alike vs bs l n a b m =
     ext-getD 0 vs bs (l ∙ sym n)
-    (λ i h. book-words vs bs a b (strides (λ j. AlikeAt vs bs (2 + j)) 3 mostGroups (λ g j p q. money-alike vs bs g j p q (m g))) i (omega arith))
+    (λ i h. book-words vs bs a b (strides (λ j. AlikeAt vs bs (2 + j)) 3 mostGroups (λ g j p q. money-alike vs bs g j p q (m g (omega arith)))) i (omega arith))
 
 -- ---- places
 
 -- the four words of a place, as they are read
-abbrev placeWords : List ℕ → ℕ → Place
-placeWords ps k = record { group = getD ps (placeBase k) 0; kind = getD ps (placeBase k + 1) 0; price = mils (getD ps (placeBase k + 2) 0); «open» = getD ps (placeBase k + 3) 0 }
+abbrev placeRead : List ℕ → ℕ → Place
+placeRead ps k = record { group = getD ps (placeBase k) 0; kind = getD ps (placeBase k + 1) 0; price = mils (getD ps (placeBase k + 2) 0); «open» = getD ps (placeBase k + 3) 0 }
 
 pub place-alike : (vs ps : List ℕ) (k i : ℕ) → k < topOrder → i < 4 → placeAt vs (suc k) ≡ placeAt ps (suc k) → AlikeAt vs ps (4 * k + i)
 place-alike vs ps k i l q e = go i q
   where
-    m : placeWords vs (suc k) ≡ placeWords ps (suc k)
+    m : placeRead vs (suc k) ≡ placeRead ps (suc k)
     m = sym (place-is vs (suc k) (omega arith) (omega arith)) ∙ e ∙ place-is ps (suc k) (omega arith) (omega arith)
 
     go : (j : ℕ) → j < 4 → AlikeAt vs ps (4 * k + j)

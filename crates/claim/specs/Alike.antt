@@ -49,14 +49,14 @@ module _ (N : ℕ) (h : History) (m n : Memory) (s : Sim N h m) (t : Sim N h n) 
   pub same-book : m .book ≡ n .book
   same-book =
       book-alike (m .book) (n .book) (b .book-length) (c .book-length)
-      (s .order .places ∙ sym (t .order .places)) (s .order .accepted ∙ sym (t .order .accepted)) (λ g. s .order .money g ∙ sym (t .order .money g))
+      (s .order .places ∙ sym (t .order .places)) (s .order .accepted ∙ sym (t .order .accepted)) (λ g l. s .order .money g ∙ sym (t .order .money g))
 
   pub same-places : SameUnused N h m n → m .places ≡ n .places
   same-places f =
       places-alike (m .places) (n .places) N (omega (arith, b .places-high, s .order .places))
       (b .places-length ∙ ap (λ (z : ℕ). 4 * z) (s .order .places))
       (c .places-length ∙ ap (λ (z : ℕ). 4 * z) (t .order .places))
-      (λ k l q. reach (length (h .orders)) k (λ o. f k o q) (λ o. s .order .stands k l o ∙ sym (t .order .stands k l o)))
+      (λ k l q. reach (length (h .orders)) k (λ o. f k (omega arith) (omega arith)) (λ o. s .order .stands k l o ∙ sym (t .order .stands k l o)))
 
   pub same-register : UnusedAlike (m .register) (n .register) → m .register ≡ n .register
   same-register u =

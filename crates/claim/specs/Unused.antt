@@ -2,7 +2,7 @@
 -- And which words of the places a call may write: "It writes that place alone; a fill or cancel changes only the open quantity in its order's
 -- place; no other call, opening and close included, writes a place." Assumes nothing.
 use Prim.{tt}
-use Prim.Native.Nat.{ℕ, zero, suc, _+_, _*_, _-_, _≤_}
+use Prim.Native.Nat.{ℕ, zero, suc, _+_, _*_, _-_, _/_, _≤_}
 use mathlib.Core.Path.{_≡_, refl, sym, ap, subst, _∙_}
 use mathlib.Core.Bool.{Bool, true, false, not, _&&_}
 use mathlib.Core.Logic.{_≢_}
@@ -11,8 +11,8 @@ use native.Mathlib.Omega.{arith}
 use lib.ListN.{length, getD}
 use Rattle.rules.specs.Tests.{pick, within-true}
 use Rattle.rules.specs.Orders.{Rule}
-use Rattle.rules.specs.Calls.{inRange, accepted, refused}
-use Rattle.rules.specs.Refusals.{UNSOUND, unlessRefused, answered}
+use Rattle.rules.specs.Calls.{inRange}
+use Rattle.rules.specs.Refusals.{UNSOUND, OUT-OF-RANGE, NOT-GIVEN, unlessRefused, answered}
 use Rattle.rules.specs.Lists.{fillRules, cancelRules}
 use Rattle.rules.specs.declared.money.Mils.{Mils}
 use Rattle.rules.specs.declared.kinds.Money.{Money}
@@ -20,20 +20,21 @@ use Rattle.rules.specs.declared.calls.Call.{Call}
 use Rattle.rules.specs.declared.calls.Call.the-variants.{Enrol, Attach, Detach, Regular, Raise, Withdraw, OwnQuota, Order, Fill, Cancel, Close}
 use Rattle.rules.specs.declared.calls.Answer.{Answer}
 use Rattle.quota.specs.Asks.{groupsEnrolled, groupOfUnit}
-use Rattle.quota.specs.Calls.{enrolRefusal, enrolAnswer, enrolAfter, attachRefusal, attachAfter, detachRefusal, detachAfter, regularRefusal, regularAfter, raiseRefusal, raiseAfter, withdrawRefusal, withdrawAfter, ownQuotaRefusal, ownQuotaAfter, closeRefusal, closeAfter}
+use Rattle.quota.specs.Calls.{enrolRefusal, enrolAfter, attachRefusal, attachAfter, detachRefusal, detachAfter, regularRefusal, regularAfter, raiseRefusal, raiseAfter, withdrawRefusal, withdrawAfter, ownQuotaRefusal, ownQuotaAfter, closeRefusal}
 use Rattle.book.specs.declared.places.Place.{Place}
-use Rattle.book.specs.Layout.{bookLength, acceptedOf, noMoney, moneyAt, putMoney, placeBase, placeAt, putPlace, putOpen}
+use Rattle.book.specs.Layout.{acceptedOf, noMoney, moneyAt, putMoney, placeBase, placeAt, putPlace, putOpen}
 use Rattle.book.specs.Check.{bookOk}
 use Rattle.book.specs.Known.{book-known}
-use Rattle.book.specs.Laws.{accepted-of-put, accepted-of-closed, place-word, open-word}
+use Rattle.book.specs.Laws.{accepted-of-put, accepted-of-closed, length-put-place, place-word, length-put-open, open-word}
 use Rattle.book.specs.Alike.{AlikeBelow, place-below, put-place-below, put-open-below}
 use Rattle.orders.specs.Host.{hostOk, isGiven, namedOk}
 use Rattle.orders.specs.Clear.{PlaceClear}
 use Rattle.orders.specs.Booking.{filledMoney, cancelledMoney}
 use Rattle.orders.specs.Calls.{orderRefusal, orderAnswer, orderBook, orderPlaces, fillRefusal, fillBook, fillPlaces, cancelRefusal, cancelBook, cancelPlaces, closedBook, fillBooked, cancelBooked}
 use Rattle.orders.specs.Kept.{order-refused, order-accepted, order-kept, fill-refused, fill-accepted, fill-kept, cancel-refused, cancel-accepted, cancel-kept}
-use Rattle.claim.specs.Step.{Memory, Stepped, memory, bookSound, onRegister, enrolledBook, enrolling, closing, closingSound, step}
-use Rattle.claim.specs.Demand.{run, answersOf}
+use Rattle.claim.specs.Step.{Memory, Stepped, memory, bookSound, onRegister, enrolledBook, enrolling, closingSound, step}
+use Rattle.claim.specs.Opening.{openRefusal, freshBook, openRegister, openBook}
+use Rattle.claim.specs.Demand.{run, answersOf, opened}
 
 -- ---- the claims
 
@@ -67,6 +68,11 @@ Unwritten m (Fill order price quantity) i = i ≢ placeBase order + 3
 Unwritten m (Cancel order) i = i ≢ placeBase order + 3
 Unwritten m Close i = Unit {0}
 
+-- every other word stays, and there are as many
+pub record PlacesKept (rule : Rule) (m : Memory) (c : Call) : Type 0 where
+  pub lengths : length ((step rule m c) .memory .places) ≡ length (m .places)
+  pub words : (i : ℕ) → Unwritten m c i → getD ((step rule m c) .memory .places) i 0 ≡ getD (m .places) i 0
+
 -- the last order number whose place a call may write
 abbrev pub lastWritten : Memory → Call → ℕ
 lastWritten m (Enrol code class) = acceptedOf (m .book)
@@ -83,6 +89,11 @@ lastWritten m Close = acceptedOf (m .book)
 
 -- ---- what a call that names an order reads
 
+-- a test holds or not
+split {ℓ} : (b : Bool) {P : Type ℓ} → (b ≡ true → P) → (b ≡ false → P) → P
+split true p q = p refl
+split false p q = q refl
+
 -- nothing refuses, or something does
 is-zero {ℓ} : (r : ℕ) {P : Type ℓ} → (r ≡ 0 → P) → (r ≢ 0 → P) → P
 is-zero zero p q = p refl
@@ -90,7 +101,7 @@ is-zero (suc r) p q = q (λ e. omega arith)
 
 -- a number that was not given: 1, 2 or 18, whatever the booking would say
 abbrev notGiven : Bool → Bool → ℕ
-notGiven ok ranges = pick (not (ok && true)) UNSOUND (pick (not ranges) 2 18)
+notGiven ok ranges = pick (not (ok && true)) UNSOUND (pick (not ranges) OUT-OF-RANGE NOT-GIVEN)
 
 not-given-same : (ok ranges : Bool) (x y : ℕ) → unlessRefused (notGiven ok ranges) x (notGiven ok ranges) ≡ unlessRefused (notGiven ok ranges) y (notGiven ok ranges)
 not-given-same false ranges x y = refl
@@ -141,45 +152,41 @@ module _ (rs bs ps qs : List ℕ) (a : AlikeBelow (acceptedOf bs) ps qs) where
   with-book : (rs′ bs′ : List ℕ) → acceptedOf bs′ ≡ acceptedOf bs → SameGiven (memory rs′ bs′ ps) (memory rs′ bs′ qs)
   with-book rs′ bs′ e = record { register = refl; book = refl; places = rw e a }
 
-  -- where the book is sound, and where it is not
-  chosen : (s t : Stepped) → (bookSound rs bs qs ≡ true → Alike s t)
-      → Alike (pick (bookSound rs bs ps) s (record { answer = refused UNSOUND; memory = memory rs bs ps })) (pick (bookSound rs bs qs) t (record { answer = refused UNSOUND; memory = memory rs bs qs }))
-  chosen s t h = rw sound-same (go (bookSound rs bs qs) h)
-    where
-      go : (b : Bool) → (b ≡ true → Alike s t) → Alike (pick b s (record { answer = refused UNSOUND; memory = memory rs bs ps })) (pick b t (record { answer = refused UNSOUND; memory = memory rs bs qs }))
-      go true f = f refl
-      go false f = record { answer = refl; left = with-book rs bs refl }
-
   on-register : (answer : Answer) (rs′ : List ℕ) → Alike (onRegister (memory rs bs ps) answer rs′) (onRegister (memory rs bs qs) answer rs′)
   on-register answer rs′ =
-      chosen (record { answer = answer; memory = memory rs′ bs ps }) (record { answer = answer; memory = memory rs′ bs qs })
-      (λ e. record { answer = refl; left = with-book rs′ bs refl })
+      split (bookSound rs bs qs)
+      (λ e. rw (sound-same, e) (record { answer = refl; left = with-book rs′ bs refl }))
+      (λ e. rw (sound-same, e) (record { answer = refl; left = with-book rs bs refl }))
 
   enrol-alike : (code class : ℕ) → Alike (enrolling (memory rs bs ps) code class) (enrolling (memory rs bs qs) code class)
   enrol-alike code class =
-      chosen
-      (record { answer = enrolAnswer rs code class; memory = memory (enrolAfter rs code class) (enrolledBook rs bs code class) ps })
-      (record { answer = enrolAnswer rs code class; memory = memory (enrolAfter rs code class) (enrolledBook rs bs code class) qs })
-      (λ e. record { answer = refl; left = with-book (enrolAfter rs code class) (enrolledBook rs bs code class) (go (enrolRefusal rs code class)) })
+      split (bookSound rs bs qs)
+      (λ e. rw (sound-same, e) (record { answer = refl; left = with-book (enrolAfter rs code class) (enrolledBook rs bs code class) (go (enrolRefusal rs code class)) }))
+      (λ e. rw (sound-same, e) (record { answer = refl; left = with-book rs bs refl }))
     where
       go : (r : ℕ) → acceptedOf (unlessRefused r (putMoney bs (groupsEnrolled rs) noMoney) bs) ≡ acceptedOf bs
       go zero = accepted-of-put bs (groupsEnrolled rs) noMoney
       go (suc r) = refl
 
   -- after the close no number is given
-  close-alike : Alike (closingSound (memory rs bs ps)) (closingSound (memory rs bs qs))
+  closed-none : bookSound rs bs qs ≡ true → acceptedOf (closedBook bs) ≡ 0
   unfolding bookSound closedBook
-  close-alike = chosen (closing (memory rs bs ps)) (closing (memory rs bs qs)) (λ e. go (closeRefusal rs) (book-known bs qs (groupsEnrolled rs) e .book-length))
+  closed-none e = accepted-of-closed bs (book-known bs qs (groupsEnrolled rs) e .book-length)
+
+  close-alike : Alike (closingSound (memory rs bs ps)) (closingSound (memory rs bs qs))
+  close-alike =
+      split (bookSound rs bs qs)
+      (λ e. go e (closeRefusal rs) refl)
+      (λ e. rw (sound-same, e) (record { answer = refl; left = with-book rs bs refl }))
     where
-      go : (r : ℕ) → length bs ≡ bookLength
-          → Alike
-          (unlessRefused r (record { answer = accepted 0; memory = memory (closeAfter rs) (closedBook bs) ps }) (record { answer = refused r; memory = memory rs bs ps }))
-          (unlessRefused r (record { answer = accepted 0; memory = memory (closeAfter rs) (closedBook bs) qs }) (record { answer = refused r; memory = memory rs bs qs }))
-      go zero l = record {
-        answer = refl;
-        left = record { register = refl; book = refl; places = rw (accepted-of-closed bs l) (record { lengths = a .lengths; words = λ i o. absurd (omega arith) }) };
-      }
-      go (suc r) l = record { answer = refl; left = with-book rs bs refl }
+      go : bookSound rs bs qs ≡ true → (r : ℕ) → closeRefusal rs ≡ r → Alike (closingSound (memory rs bs ps)) (closingSound (memory rs bs qs))
+      go e zero z =
+          rw (sound-same, e, z)
+          (record {
+            answer = refl;
+            left = record { register = refl; book = refl; places = rw (closed-none e) (record { lengths = a .lengths; words = λ i o. absurd (omega arith) }) };
+          })
+      go e (suc r) z = rw (sound-same, e, z) (record { answer = refl; left = with-book rs bs refl })
 
   order-alike : (rule : Rule) (unit kind : ℕ) (price : Mils) (quantity : ℕ) → Alike (step rule (memory rs bs ps) (Order unit kind price quantity)) (step rule (memory rs bs qs) (Order unit kind price quantity))
   unfolding step orderAnswer orderBook
@@ -292,51 +299,74 @@ run-unused rule (c ∷ cs) m n s =
     let u = run-unused rule cs ((step rule m c) .memory) ((step rule n c) .memory) (t .left) in
     record { answers = rw (t .answer, u .answers); left = u .left }
 
+-- gates that were opened over as many places, of any contents
+open-same : (rs bs ps qs : List ℕ) → length ps ≡ length qs → openRefusal rs bs ps ≡ openRefusal rs bs qs
+unfolding openRefusal
+open-same rs bs ps qs l = rw l
+
+pub opened-alike : (rs bs ps qs : List ℕ) → length ps ≡ length qs → openRefusal rs bs ps ≡ 0 → SameGiven (opened rs bs ps) (opened rs bs qs)
+unfolding openRegister openBook
+opened-alike rs bs ps qs l e =
+    let f : openRefusal rs bs qs ≡ 0 = sym (open-same rs bs ps qs l) ∙ e in
+    rw (e, f) (record { register = refl; book = ap (λ (n : ℕ). freshBook (n / 4)) l; places = record { lengths = l; words = λ i o. absurd (omega arith) } })
+
 -- ---- the words that a call writes
 
--- a call of the quotas leaves the places as they were
+-- calls 1 to 7 and the close leave the places as they were
 module _ (m : Memory) where
-  same-places : (b : Bool) (s : Stepped) → s .memory .places ≡ m .places → (pick b s (record { answer = refused UNSOUND; memory = m })) .memory .places ≡ m .places
-  same-places true s e = e
-  same-places false s e = refl
+  quota-kept : (answer : Answer) (rs : List ℕ) → (onRegister m answer rs) .memory .places ≡ m .places
+  quota-kept answer rs = split (bookSound (m .register) (m .book) (m .places)) (λ e. rw e) (λ e. rw e)
 
-  close-places : (r : ℕ) → (unlessRefused {A = Stepped} r (record { answer = accepted 0; memory = memory (closeAfter (m .register)) (closedBook (m .book)) (m .places) }) (record { answer = refused r; memory = m })) .memory .places ≡ m .places
-  close-places zero = refl
-  close-places (suc r) = refl
+  enrol-kept : (code class : ℕ) → (enrolling m code class) .memory .places ≡ m .places
+  enrol-kept code class = split (bookSound (m .register) (m .book) (m .places)) (λ e. rw e) (λ e. rw e)
 
-  quota-kept : (answer : Answer) (rs : List ℕ) (i : ℕ) → getD ((onRegister m answer rs) .memory .places) i 0 ≡ getD (m .places) i 0
-  quota-kept answer rs i =
-      ap (λ (z : List ℕ). getD z i 0) (same-places (bookSound (m .register) (m .book) (m .places)) (record { answer = answer; memory = memory rs (m .book) (m .places) }) refl)
+  close-kept : (closingSound m) .memory .places ≡ m .places
+  close-kept = split (bookSound (m .register) (m .book) (m .places)) (λ e. go e (closeRefusal (m .register)) refl) (λ e. rw e)
+    where
+      go : bookSound (m .register) (m .book) (m .places) ≡ true → (r : ℕ) → closeRefusal (m .register) ≡ r → (closingSound m) .memory .places ≡ m .places
+      go e zero z = rw (e, z)
+      go e (suc r) z = rw (e, z)
 
--- a word that stays where something is written stays where nothing is
-put-or-not : (r : ℕ) (xs ps : List ℕ) (i : ℕ) → getD xs i 0 ≡ getD ps i 0 → getD (unlessRefused r xs ps) i 0 ≡ getD ps i 0
-put-or-not zero xs ps i e = e
-put-or-not (suc r) xs ps i e = refl
+-- what is read alike where something is written is read alike where nothing is
+put-or-not : (f : List ℕ → ℕ) (r : ℕ) (xs ps : List ℕ) → f xs ≡ f ps → f (unlessRefused r xs ps) ≡ f ps
+put-or-not f zero xs ps e = e
+put-or-not f (suc r) xs ps e = refl
 
--- every word that the call does not write stays, in every memory
-pub places-kept : (rule : Rule) (m : Memory) (c : Call) (i : ℕ) → Unwritten m c i → getD ((step rule m c) .memory .places) i 0 ≡ getD (m .places) i 0
+all-kept : {rule : Rule} {m : Memory} {c : Call} → (step rule m c) .memory .places ≡ m .places → PlacesKept rule m c
+all-kept e = record { lengths = ap length e; words = λ i u. ap (λ (z : List ℕ). getD z i 0) e }
+
+-- an open quantity written or not
+open-kept : (r k q : ℕ) (ps : List ℕ) → (length (unlessRefused r (putOpen ps k q) ps) ≡ length ps) × ((i : ℕ) → i ≢ placeBase k + 3 → getD (unlessRefused r (putOpen ps k q) ps) i 0 ≡ getD ps i 0)
+open-kept r k q ps = (
+  put-or-not length r (putOpen ps k q) ps (length-put-open ps k q),
+  λ i d. put-or-not (λ z. getD z i 0) r (putOpen ps k q) ps (open-word ps k q i d),
+)
+
+-- in every memory
+pub places-kept : (rule : Rule) (m : Memory) (c : Call) → PlacesKept rule m c
 unfolding step orderPlaces fillPlaces cancelPlaces
-places-kept rule m (Enrol code class) i u =
-    ap (λ (z : List ℕ). getD z i 0)
-    (same-places m (bookSound (m .register) (m .book) (m .places)) (record { answer = enrolAnswer (m .register) code class; memory = memory (enrolAfter (m .register) code class) (enrolledBook (m .register) (m .book) code class) (m .places) }) refl)
-places-kept rule m (Attach unit group) i u = quota-kept m (answered (attachRefusal (m .register) unit group)) (attachAfter (m .register) unit group) i
-places-kept rule m (Detach unit) i u = quota-kept m (answered (detachRefusal (m .register) unit)) (detachAfter (m .register) unit) i
-places-kept rule m (Regular declarer group base quota) i u = quota-kept m (answered (regularRefusal (m .register) declarer group base quota)) (regularAfter (m .register) declarer group base quota) i
-places-kept rule m (Raise declarer group quota flag) i u = quota-kept m (answered (raiseRefusal (m .register) declarer group quota flag)) (raiseAfter (m .register) declarer group quota flag) i
-places-kept rule m (Withdraw declarer group) i u = quota-kept m (answered (withdrawRefusal (m .register) declarer group)) (withdrawAfter (m .register) declarer group) i
-places-kept rule m (OwnQuota group quota) i u = quota-kept m (answered (ownQuotaRefusal (m .register) group quota)) (ownQuotaAfter (m .register) group quota) i
-places-kept rule m (Order unit kind price quantity) i u =
+places-kept rule m (Enrol code class) = all-kept (enrol-kept m code class)
+places-kept rule m (Attach unit group) = all-kept (quota-kept m (answered (attachRefusal (m .register) unit group)) (attachAfter (m .register) unit group))
+places-kept rule m (Detach unit) = all-kept (quota-kept m (answered (detachRefusal (m .register) unit)) (detachAfter (m .register) unit))
+places-kept rule m (Regular declarer group base quota) = all-kept (quota-kept m (answered (regularRefusal (m .register) declarer group base quota)) (regularAfter (m .register) declarer group base quota))
+places-kept rule m (Raise declarer group quota flag) = all-kept (quota-kept m (answered (raiseRefusal (m .register) declarer group quota flag)) (raiseAfter (m .register) declarer group quota flag))
+places-kept rule m (Withdraw declarer group) = all-kept (quota-kept m (answered (withdrawRefusal (m .register) declarer group)) (withdrawAfter (m .register) declarer group))
+places-kept rule m (OwnQuota group quota) = all-kept (quota-kept m (answered (ownQuotaRefusal (m .register) group quota)) (ownQuotaAfter (m .register) group quota))
+places-kept rule m (Order unit kind price quantity) =
     let p : Place = record { group = groupOfUnit (m .register) unit; kind = kind; price = price; «open» = quantity } in
-    put-or-not (orderRefusal rule (m .register) (m .book) (m .places) unit kind price quantity) (putPlace (m .places) (acceptedOf (m .book) + 1) p) (m .places) i
-    (place-word (m .places) (acceptedOf (m .book) + 1) p i u)
-places-kept rule m (Fill order price quantity) i u =
-    put-or-not (fillRefusal (m .register) (m .book) (m .places) order price quantity) (putOpen (m .places) order ((placeAt (m .places) order) .«open» - quantity)) (m .places) i
-    (open-word (m .places) order ((placeAt (m .places) order) .«open» - quantity) i u)
-places-kept rule m (Cancel order) i u =
-    put-or-not (cancelRefusal (m .register) (m .book) (m .places) order) (putOpen (m .places) order 0) (m .places) i
-    (open-word (m .places) order 0 i u)
-places-kept rule m Close i u =
-    ap (λ (z : List ℕ). getD z i 0) (same-places m (bookSound (m .register) (m .book) (m .places)) (closing m) (close-places m (closeRefusal (m .register))))
+    let n : ℕ = acceptedOf (m .book) + 1 in
+    let r : ℕ = orderRefusal rule (m .register) (m .book) (m .places) unit kind price quantity in
+    record {
+      lengths = put-or-not length r (putPlace (m .places) n p) (m .places) (length-put-place (m .places) n p);
+      words = λ i u. put-or-not (λ z. getD z i 0) r (putPlace (m .places) n p) (m .places) (place-word (m .places) n p i u);
+    }
+places-kept rule m (Fill order price quantity) =
+    let o = open-kept (fillRefusal (m .register) (m .book) (m .places) order price quantity) order ((placeAt (m .places) order) .«open» - quantity) (m .places) in
+    record { lengths = o .0; words = o .1 }
+places-kept rule m (Cancel order) =
+    let o = open-kept (cancelRefusal (m .register) (m .book) (m .places) order) order 0 (m .places) in
+    record { lengths = o .0; words = o .1 }
+places-kept rule m Close = all-kept (close-kept m)
 
 -- a fill or a cancel that is not refused names a number that was given
 fill-unused : (rule : Rule) (m : Memory) (k : ℕ) (price : Mils) (quantity i : ℕ) → 4 * acceptedOf (m .book) ≤ i → getD ((step rule m (Fill k price quantity)) .memory .places) i 0 ≡ getD (m .places) i 0
@@ -345,7 +375,7 @@ fill-unused rule m k price quantity i l =
     is-zero (fillRefusal (m .register) (m .book) (m .places) k price quantity)
     (λ z.
     let c = fill-kept (m .register) (m .book) (m .places) k price quantity z .clear .named in
-    places-kept rule m (Fill k price quantity) i (λ e. omega (arith, c .number-low, c .number-high)))
+    places-kept rule m (Fill k price quantity) .words i (λ e. omega (arith, c .number-low, c .number-high)))
     (λ d. ap (λ (z : List ℕ). getD z i 0) (fill-refused (m .register) (m .book) (m .places) k price quantity d .1))
 
 cancel-unused : (rule : Rule) (m : Memory) (k i : ℕ) → 4 * acceptedOf (m .book) ≤ i → getD ((step rule m (Cancel k)) .memory .places) i 0 ≡ getD (m .places) i 0
@@ -354,19 +384,19 @@ cancel-unused rule m k i l =
     is-zero (cancelRefusal (m .register) (m .book) (m .places) k)
     (λ z.
     let c = cancel-kept (m .register) (m .book) (m .places) k z .clear .named in
-    places-kept rule m (Cancel k) i (λ e. omega (arith, c .number-low, c .number-high)))
+    places-kept rule m (Cancel k) .words i (λ e. omega (arith, c .number-low, c .number-high)))
     (λ d. ap (λ (z : List ℕ). getD z i 0) (cancel-refused (m .register) (m .book) (m .places) k d .1))
 
 -- a word above the last number given stays as it was; an order takes one number more
 pub unused-kept : (rule : Rule) (m : Memory) (c : Call) (i : ℕ) → 4 * lastWritten m c ≤ i → getD ((step rule m c) .memory .places) i 0 ≡ getD (m .places) i 0
-unused-kept rule m (Enrol code class) i l = places-kept rule m (Enrol code class) i tt
-unused-kept rule m (Attach unit group) i l = places-kept rule m (Attach unit group) i tt
-unused-kept rule m (Detach unit) i l = places-kept rule m (Detach unit) i tt
-unused-kept rule m (Regular declarer group base quota) i l = places-kept rule m (Regular declarer group base quota) i tt
-unused-kept rule m (Raise declarer group quota flag) i l = places-kept rule m (Raise declarer group quota flag) i tt
-unused-kept rule m (Withdraw declarer group) i l = places-kept rule m (Withdraw declarer group) i tt
-unused-kept rule m (OwnQuota group quota) i l = places-kept rule m (OwnQuota group quota) i tt
-unused-kept rule m (Order unit kind price quantity) i l = places-kept rule m (Order unit kind price quantity) i (λ b. omega arith)
+unused-kept rule m (Enrol code class) i l = places-kept rule m (Enrol code class) .words i tt
+unused-kept rule m (Attach unit group) i l = places-kept rule m (Attach unit group) .words i tt
+unused-kept rule m (Detach unit) i l = places-kept rule m (Detach unit) .words i tt
+unused-kept rule m (Regular declarer group base quota) i l = places-kept rule m (Regular declarer group base quota) .words i tt
+unused-kept rule m (Raise declarer group quota flag) i l = places-kept rule m (Raise declarer group quota flag) .words i tt
+unused-kept rule m (Withdraw declarer group) i l = places-kept rule m (Withdraw declarer group) .words i tt
+unused-kept rule m (OwnQuota group quota) i l = places-kept rule m (OwnQuota group quota) .words i tt
+unused-kept rule m (Order unit kind price quantity) i l = places-kept rule m (Order unit kind price quantity) .words i (λ b. omega arith)
 unused-kept rule m (Fill order price quantity) i l = fill-unused rule m order price quantity i l
 unused-kept rule m (Cancel order) i l = cancel-unused rule m order i l
-unused-kept rule m Close i l = places-kept rule m Close i tt
+unused-kept rule m Close i l = places-kept rule m Close .words i tt

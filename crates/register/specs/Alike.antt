@@ -11,6 +11,7 @@ use Rattle.rules.specs.Money.{millions}
 use Rattle.rules.specs.declared.money.Millions.{Millions}
 use Rattle.rules.specs.declared.quotas.Quota.{Quota}
 use Rattle.words.specs.Words.{run-at}
+use Rattle.words.specs.Alike.{AlikeAt, alike-at}
 use Rattle.pairs.specs.Pairs.{pairsOf}
 use Rattle.figures.specs.Figures.{standingOf}
 use Rattle.figures.specs.Places.{pairs, length-pairs}
@@ -20,14 +21,6 @@ use Rattle.register.specs.Records.{part, record-word, length-record}
 use Rattle.register.specs.Views.{units-is, length-column, length-group-column, length-units}
 use Rattle.register.specs.Sound.{reach, in-range, Sound, known, words-back}
 use Rattle.register.specs.declared.groups.Group.{Group}
-
-module _ (vs ws : List ℕ) where
-  -- two registers have the same word
-  abbrev pub AlikeAt : ℕ → Type 0
-  AlikeAt p = getD vs p 0 ≡ getD ws p 0
-
-  alike-at : (p q : ℕ) → q ≡ p → AlikeAt q → AlikeAt p
-  alike-at p q e a = rw e at a
 
 -- two groups read alike: what stands above the standing figures is not read
 pub record ReadAlike (g k : Group) : Type 0 where
@@ -172,11 +165,11 @@ module _ (vs ws : List ℕ) (ok : registerOk vs ≡ true) (fine : registerOk ws 
       (λ d. alike-at vs ws (place i k) (place i (atDeclarers + (k - 7))) (ap (place i) (omega arith))
       (reach (k - 7) ((groupAt ws i) .figures .standing)
       (λ s. word (atDeclarers + (k - 7)) (omega arith) (figure-alike (recordAt vs i) (recordAt ws i) p q b c (read i h) (k - 7) s .0))
-      (λ s. unused .declarers i (k - 7) h s (omega arith))))
+      (λ s. unused .declarers i (k - 7) h (omega arith) (omega arith))))
       (λ d. alike-at vs ws (place i k) (place i (atQuotas + (k - 15))) (ap (place i) (omega arith))
       (reach (k - 15) ((groupAt ws i) .figures .standing)
       (λ s. word (atQuotas + (k - 15)) (omega arith) (figure-alike (recordAt vs i) (recordAt ws i) p q b c (read i h) (k - 15) s .1))
-      (λ s. unused .quotas i (k - 15) h s (omega arith)))))
+      (λ s. unused .quotas i (k - 15) h (omega arith) (omega arith)))))
 
   group-word : (i k : ℕ) → i < 64 → k < 23 → AlikeAt vs ws (place i k)
   group-word i k h l = reach i (groupCount ws) (λ a. enrolled-word i k a l) (λ a. unused .groups i k a h l)
@@ -207,7 +200,7 @@ module _ (vs ws : List ℕ) (ok : registerOk vs ≡ true) (fine : registerOk ws 
   header-word : (p : ℕ) → p < 16 → AlikeAt vs ws p
   header-word zero h = count
   header-word (suc zero) h = unit-count
-  header-word (suc (suc p)) h = unused .header (suc (suc p)) (omega arith) h
+  header-word (suc (suc p)) h = unused .header (suc (suc p)) (omega arith) (omega arith)
 
   -- every word is one of these: header, declarers, figures, units, their groups, columns of scalars
   every-word : (p : ℕ) → p < registerLength → AlikeAt vs ws p
