@@ -1,5 +1,5 @@
--- A book is its figures and places are their orders' figures: memory of the same length that reads alike is the same, word for word. So no
--- word of a book or of a place stands for nothing, and none is read twice. And what is put into two memories alike leaves them alike. Assumes nothing.
+-- A book is its figures and places are their orders' figures: memory of the same length that reads alike is the same, word for word. So every
+-- word of a book or of a place stands for something. And what is put into two memories that are alike leaves them alike. Assumes nothing.
 use Prim.Native.Nat.{ℕ, zero, suc, _+_, _*_, _-_, _≤_, _<_}
 use mathlib.Core.Path.{_≡_, refl, sym, ap, _∙_}
 use mathlib.Core.Bool.{Bool, true, false}
