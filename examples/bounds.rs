@@ -225,9 +225,9 @@ fn register_bounds() {
         }
     }
 
-    // units and groups above the counts hold anything
+    // "Records above the counts may hold anything" (docs/DECISIONS.md)
     for word in [FIRST_UNIT + 3, FIRST_UNIT_GROUP + 3, scalar(CODE, 3), scalar(EMERGENCY, 3), FIRST_DECLARER + 24, FIRST_FIGURE + 24] {
-        sound(&with_word(&gate, word, u32::MAX), &[1, 2, 3, 4, 5, 6, 7, 8, 9, 10, 11], "\"A fresh gate .. over places of any contents\": not in use");
+        sound(&with_word(&gate, word, u32::MAX), &[1, 2, 3, 4, 5, 6, 7, 8, 9, 10, 11], "not in use");
     }
 }
 
