@@ -1,7 +1,7 @@
 //! The peer of gateday in plain Rust: the same input, the same answers and listing, byte for byte. State stands in place in plain structs, and
 //! before each call the same figures are checked as the gate checks, since a host's memory may be foreign. std only, no unsafe.
 //!
-//! `--cfg wide` makes every figure a u64, as the gate's words are; without it figures are u32, as an engineer would choose them.
+//! `--cfg wide` makes every figure a u64, as the gate's words were at first; without it figures are u32, as an engineer would choose them.
 
 use std::io::{self, BufRead, BufReader, BufWriter, Write};
 

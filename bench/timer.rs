@@ -1,5 +1,5 @@
 //! Times programs over one input, interleaved: `timer ROUNDS NAME INPUT PROGRAM...`. Prints a table line: the day's name, then for each program the median of
-//! user + system time in ms, then for each program but the first the ratio of the first to it (the median of the rounds' ratios).
+//! user + system time in ms, then for each program but the first the ratio of the first to it: the median of the rounds' ratios, in brackets their quartiles.
 //! Processor time, not wall time, since the machine may be in use by others.
 
 use std::fs::File;
@@ -29,9 +29,10 @@ fn run_ms(program: &str, input: &str) -> f64 {
     children_ms() - before
 }
 
-fn median(mut times: Vec<f64>) -> f64 {
-    times.sort_by(f64::total_cmp);
-    times[times.len() / 2]
+/// The lower quartile, the median and the upper quartile.
+fn quartiles(mut values: Vec<f64>) -> [f64; 3] {
+    values.sort_by(f64::total_cmp);
+    [1, 2, 3].map(|k| values[k * (values.len() - 1) / 4])
 }
 
 fn main() {
@@ -55,11 +56,11 @@ fn main() {
     }
     print!("| {name} |");
     for of in &times {
-        print!(" {:.1} |", median(of.clone()));
+        print!(" {:.1} |", quartiles(of.clone())[1]);
     }
     for of in &times[1..] {
-        let ratios = times[0].iter().zip(of).map(|(a, b)| a / b).collect();
-        print!(" {:.2} |", median(ratios));
+        let [low, middle, high] = quartiles(times[0].iter().zip(of).map(|(a, b)| a / b).collect());
+        print!(" {middle:.2} ({low:.2} to {high:.2}) |");
     }
     println!();
 }

@@ -1,12 +1,13 @@
-// Damages a gate's memory at random and checks what docs/EMBEDDING.md says of it. On random days, with random words of register, book and
-// places overwritten at random points:
+// Damages a gate's memory and checks what docs/EMBEDDING.md says of it. First the bounds of every figure, case by case (bounds.rs). Then at random: on
+// random days, a few of them with 64 groups and 256 units or with eight declarers, with random words of register, book and places overwritten at random points:
 //   - memory with a figure out of its range is answered by 1, at every call, listing and row;
 //   - every other answer is one of the refusal list, or an accepted call that writes only the memory that is its own;
 //   - after every refusal all three slices, and a listing's or a row's buffer, are as they were;
 //   - a gate restored from a copy of its bytes goes on as if nothing had happened;
 //   - words that are not in use yet decide no answer;
-//   - undamaged memory is never answered by 1.
+//   - undamaged memory is never answered by 1, and every other number of a call is reached.
 // A check that fails stops the program with another status than 0. Own generator, fixed seed: every run does the same.
+mod bounds;
 mod gate;
 
 use gate::{Answer, Gate, BOOK, DASH, MOST_GROUPS, PLACE, REGISTER, ROW_BYTES, ROW_WORDS, UNSOUND};
@@ -41,7 +42,9 @@ impl Draws {
     }
 }
 
-// ---- what the paper says of the memory, written anew from "Money and names" and the layout in docs/EMBEDDING.md
+// ---- which memory is in range: the ranges of "Money and names" over the layout in docs/EMBEDDING.md, written anew. Three of the rules are no ranges of
+// the paper but readings of docs/DECISIONS.md, which the gate has as well, so that nothing here can judge them: a group number must be enrolled; a place's
+// price keeps its kind's rule; words of figures that do not stand are held to their ranges, and an emergency figure that nobody holds is 0.
 
 // The words of a group: seven scalars, eight declarers, their figures.
 fn group_words(register: &[u32], g: usize) -> Vec<u32> {
@@ -96,7 +99,8 @@ fn place_in_range(gate: &Gate, order: u64) -> bool {
 
 fn random_call(gate: &Gate, draws: &mut Draws) -> [u64; 5] {
     let d = draws;
-    let (unit, group, declarer) = (d.below(6), d.below(4), d.below(10));
+    let (unit, declarer) = (d.below(6), d.below(10));
+    let group = if d.once_in(12) { 62 + d.below(4) } else { d.below(4) };
     let amount = if d.once_in(3) { 99_990 + d.below(20) } else { d.below(12) };
     let order = d.below(gate.book[1].min(65_536) + 2);
     let mut call = match d.below(24) {
@@ -128,7 +132,7 @@ fn random_call(gate: &Gate, draws: &mut Draws) -> [u64; 5] {
     call
 }
 
-// Three groups with units and maxima, as most days have them from the start.
+// Three groups with units and maxima, as most days have them from the start. (full_morning fills the gate up.)
 const MORNING: [[u64; 5]; 13] = [
     [1, 1, 1, 0, 0],
     [1, 2, 3, 0, 0],
@@ -144,6 +148,16 @@ const MORNING: [[u64; 5]; 13] = [
     [4, 7, 2, 9, 9],
     [11, 0, 0, 0, 0],
 ];
+
+// After that morning: 64 groups and 256 units; or eight declarers of group 1, two of which have figures from the morning. Random calls have ten declarers.
+fn full_morning() -> impl Iterator<Item = [u64; 5]> {
+    let groups = (3..64).map(|code| [1, 100 + code, 3, 0, 0]);
+    groups.chain((5..256).map(|unit| [2, 100 + unit, unit % 64, 0, 0]))
+}
+
+fn eight_declarers() -> impl Iterator<Item = [u64; 5]> {
+    (0..8).map(|declarer| [4, declarer, 1, 3, 3])
+}
 
 // ---- checks
 
@@ -170,6 +184,17 @@ fn checked_call(gate: &mut Gate, call: [u64; 5], seen: &mut Seen) -> Answer {
     }
     if sound && !(8..=10).contains(&call[0]) {
         assert_ne!(answer.refusal, UNSOUND, "memory in range, {call:?}");
+    }
+    let group = match call[0] {
+        2 | 4 | 5 | 6 => Some(call[2]),
+        7 => Some(call[1]),
+        _ => None,
+    };
+    if sound && group.is_some_and(|g| g > 63) {
+        assert_eq!(answer.refusal, 2, "group number 0 to 63, {call:?}");
+    }
+    if sound && group.is_some_and(|g| g >= before.register[0] as u64) {
+        assert!([2, 4, 5, 6].contains(&answer.refusal), "group not enrolled, {call:?}");
     }
     if !(1..=11).contains(&call[0]) {
         assert_eq!(answer.refusal, if sound { 2 } else { 1 }, "no call has this code, {call:?}");
@@ -207,7 +232,7 @@ fn checked_call(gate: &mut Gate, call: [u64; 5], seen: &mut Seen) -> Answer {
 }
 
 // A listing and a row of any memory: refused without a byte written, or of the length that is said, the tail kept.
-fn check_readers(gate: &Gate, draws: &mut Draws) {
+fn check_readers(gate: &Gate, damaged: bool, draws: &mut Draws) {
     let sound = in_range(gate);
     let before = gate.clone();
     let mut buffer = vec![7u8; draws.below(ROW_BYTES as u64 * 6) as usize];
@@ -215,19 +240,28 @@ fn check_readers(gate: &Gate, draws: &mut Draws) {
         buffer.resize(ROW_BYTES * MOST_GROUPS, 7);
     }
     let listed = gate.listing(&mut buffer);
-    assert!([0, 1, 22].contains(&listed.refusal));
-    assert!(sound || listed.refusal == UNSOUND);
+    let due = if buffer.len() < ROW_BYTES * gate.register[0] as usize { 22 } else { 0 };
+    assert!(listed.refusal == UNSOUND && damaged || sound && listed.refusal == due);
     let n = listed.number as usize;
     assert!(listed.refusal == 0 || n == 0);
     assert!(listed.refusal != 0 || n == ROW_BYTES * gate.register[0] as usize);
     assert!(buffer[n..].iter().all(|&b| b == 7));
     assert!(buffer[..n].chunks(ROW_BYTES).all(|line| line[ROW_BYTES - 1] == b'\n'));
 
-    let group = draws.below(6);
+    let group = if draws.once_in(3) { 62 + draws.below(4) } else { draws.below(6) };
     let mut out = vec![7u64; draws.below(14) as usize];
     let refusal = gate.row(group, &mut out);
-    assert!([0, 1, 6, 22].contains(&refusal));
-    assert!(sound || refusal == UNSOUND);
+    if !sound {
+        assert_eq!(refusal, UNSOUND);
+    } else if group > 63 {
+        assert_eq!(refusal, 2, "row of group {group}");
+    } else if group >= gate.register[0] as u64 {
+        assert_eq!(refusal, 6, "row of group {group}");
+    } else {
+        // 1 where the row would break its rules
+        let due = if out.len() < ROW_WORDS { 22 } else { 0 };
+        assert!(refusal == UNSOUND && damaged || refusal == due, "row of group {group}");
+    }
     if refusal != 0 {
         assert!(out.iter().all(|&w| w == 7));
     } else {
@@ -267,7 +301,7 @@ fn from_bytes(bytes: &[u8]) -> Gate {
 }
 
 // Ends of ranges, and what lies behind them.
-const EDGES: [u64; 16] = [4, 5, 8, 9, 64, 65, 256, 257, 65_536, 65_537, 99_999, 100_000, 200_000, 200_001, L, L + 1];
+const EDGES: [u64; 17] = [4, 5, 8, 9, 63, 64, 65, 256, 257, 65_536, 65_537, 99_999, 100_000, 200_000, 200_001, L, L + 1];
 const QUOTAS: [u64; 4] = [9_999_999, 10_000_000, 10_000_001, 9_999_998];
 
 // A word of a register that is in use: a count, a unit or its group, a word of a group.
@@ -372,7 +406,8 @@ fn main() {
     let mut whole = Seen { calls: 0, unsound: 0, answers: [0; 23] };
     let mut hurt = Seen { calls: 0, unsound: 0, answers: [0; 23] };
     check_lengths(&mut draws);
-    for _ in 0..DAYS {
+    bounds::check();
+    for day in 0..DAYS {
         let n = [1, 3, 20, 64][draws.below(4) as usize];
         let mut gate = Gate::lent(REGISTER, BOOK, PLACE * n, draws.next());
         assert_eq!(gate.open(), 0);
@@ -380,12 +415,21 @@ fn main() {
             for call in MORNING {
                 assert_eq!(checked_call(&mut gate, call, &mut whole).refusal, 0);
             }
+            if day % 50 == 0 {
+                for call in full_morning() {
+                    assert_eq!(checked_call(&mut gate, call, &mut whole).refusal, 0);
+                }
+            } else if day % 8 == 0 {
+                for call in eight_declarers() {
+                    assert_eq!(checked_call(&mut gate, call, &mut whole).refusal, 0);
+                }
+            }
         }
         for _ in 0..draws.below(90) {
             let call = random_call(&gate, &mut draws);
             checked_call(&mut gate, call, &mut whole);
         }
-        check_readers(&gate, &mut draws);
+        check_readers(&gate, false, &mut draws);
 
         let copy = to_bytes(&gate);
         damage(&mut gate, &mut draws);
@@ -396,7 +440,7 @@ fn main() {
             touched |= checked_call(&mut gate, call, &mut hurt).refusal == 0;
         }
         assert!(touched || gate == damaged);
-        check_readers(&gate, &mut draws);
+        check_readers(&gate, true, &mut draws);
 
         // restored, it answers as a gate that was never damaged, and as one with anything in the unused words
         gate = from_bytes(&copy);
@@ -413,6 +457,7 @@ fn main() {
         assert!(listing_of(&gate) == listing_of(&noisy));
     }
     assert_eq!(whole.answers[UNSOUND as usize], 0, "undamaged memory was answered by 1");
+    assert!((2..=20).all(|number| whole.answers[number] > 0), "a number was never reached: {:?}", &whole.answers[..21]);
     assert!(hurt.unsound > 10_000 && hurt.answers[0] > 1_000, "too little was tried");
     println!("{DAYS} days; undamaged: {} calls, answers {:?}", whole.calls, &whole.answers[..21]);
     println!("damaged: {} calls, {} with a figure out of range, answers {:?}", hurt.calls, hurt.unsound, &hurt.answers[..21]);
