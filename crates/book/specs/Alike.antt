@@ -15,9 +15,9 @@ use Rattle.rules.specs.Money.{mils}
 use Rattle.rules.specs.declared.kinds.Money.{Money}
 use Rattle.book.specs.Layout.{bookLength, placesOf, acceptedOf, moneyBase, moneyAt, placeBase, placeAt, putPlace, putOpen, placeWords}
 use Rattle.book.specs.Known.{money-is}
-use Rattle.words.specs.Each.{same}
+use Rattle.words.specs.Each.{same, reach}
 use Rattle.words.specs.Alike.{AlikeAt, alike-at}
-use Rattle.book.specs.Laws.{reach, place-is, place-words, place-word, place-same, open-word, open-same, length-put-place, length-put-open}
+use Rattle.book.specs.Laws.{place-is, place-words, place-word, place-same, open-word, open-same, length-put-place, length-put-open}
 use Rattle.book.specs.declared.places.Place.{Place}
 
 -- what holds of w words of each of n records holds of every word

@@ -23,7 +23,7 @@ use Rattle.register.specs.Layout.{groupCount}
 use Rattle.quota.specs.Asks.{groupsEnrolled}
 use Rattle.book.specs.Layout.{acceptedOf, putMoney, placeAt, placeWords}
 use Rattle.book.specs.Known.{BookKnown}
-use Rattle.book.specs.Laws.{reach, accepted-of-put, place-words}
+use Rattle.book.specs.Laws.{accepted-of-put, place-words}
 use Rattle.book.specs.Alike.{book-alike, places-alike}
 use Rattle.orders.specs.Clear.{host-known}
 use Rattle.orders.specs.Calls.{fillRefusal, fillBooked, fillBook, cancelRefusal, cancelBooked, cancelBook}
@@ -32,6 +32,7 @@ use Rattle.claim.specs.Demand.{run}
 use Rattle.claim.specs.QuotaSim as quotas
 use Rattle.claim.specs.Theorem.{Sim, run-sim}
 use Rattle.claim.specs.Unused.{unused-kept}
+use Rattle.words.specs.Each.{reach}
 
 -- ---- gates that stand for one history
 

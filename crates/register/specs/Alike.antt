@@ -19,8 +19,9 @@ use Rattle.register.specs.Layout.{registerLength, groupCount, unitCount,
 use Rattle.register.specs.Check.{registerOk, recordOk}
 use Rattle.register.specs.Records.{part, record-word, length-record}
 use Rattle.register.specs.Views.{units-is, length-column, length-group-column, length-units}
-use Rattle.register.specs.Sound.{reach, in-range, Sound, known, words-back}
+use Rattle.register.specs.Sound.{in-range, Sound, known, words-back}
 use Rattle.register.specs.declared.groups.Group.{Group}
+use Rattle.words.specs.Each.{reach}
 
 -- two groups read alike: what stands above the standing figures is not read
 pub record ReadAlike (g k : Group) : Type 0 where
