@@ -51,7 +51,7 @@ eleven =
 -- N = 4. Two groups: 0 the firm 1 with a figure of 8; 1 of class 3 with an emergency of 20, held by 11. A unit of group 0. Two orders of
 -- group 0: a limit buy of 10 at 500, and a limit sell of 10 at 500; open buys of 5,000.
 abbrev begun : Memory
-begun = run shanghai (opened (replicate registerLength 7) (replicate bookLength 7) (replicate 16 7)) (Enrol 1 1 ∷ Enrol 2 3 ∷ Regular 1 0 (millions 3) (millions 8) ∷ Raise 11 1 (millions 20) 0 ∷ Close ∷ [])
+begun = run shanghai (opened (memory (replicate registerLength 7) (replicate bookLength 7) (replicate 16 7))) (Enrol 1 1 ∷ Enrol 2 3 ∷ Regular 1 0 (millions 3) (millions 8) ∷ Raise 11 1 (millions 20) 0 ∷ Close ∷ [])
 
 -- word k of group g in the register; a unit's two words; a total of group g in the book; word k of the place of an order
 abbrev wordOf : ℕ → ℕ → ℕ
@@ -124,7 +124,7 @@ AllAre n rs bs = elevenAsked rs bs eleven ≡ replicate 11 n
 
 -- lent memory of these lengths, and the opening's answer
 abbrev Opens : ℕ → ℕ → ℕ → ℕ → Type 0
-Opens r b p n = openRefusal (replicate r 7) (replicate b 7) (replicate p 7) ≡ n
+Opens r b p n = openRefusal (memory (replicate r 7) (replicate b 7) (replicate p 7)) ≡ n
 
 -- ---- the table
 

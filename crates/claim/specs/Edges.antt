@@ -30,7 +30,7 @@ use Rattle.history.specs.Runs.{accept, next, after, answers}
 use Rattle.register.specs.Layout.{groupAt, registerLength}
 use Rattle.quota.specs.Asks.{ownInForce}
 use Rattle.book.specs.Layout.{moneyAt, bookLength}
-use Rattle.claim.specs.Step.{Memory}
+use Rattle.claim.specs.Step.{Memory, memory}
 use Rattle.claim.specs.Opening.{placesLent, openRefusal}
 use Rattle.claim.specs.Demand.{run, answersOf, opened, RowIs}
 use Rattle.claim.specs.Theorem.{demand}
@@ -192,26 +192,26 @@ told =
     & tt
 
 -- the third demand carries a case over to the gate
-module _ (rs bs ps : List ℕ) (o : openRefusal rs bs ps ≡ 0) where
-  row : (cs : List Call) (g : ℕ) → ltb g (length ((pastOf (placesLent ps) cs) .groups)) ≡ true → RowIs (pastOf (placesLent ps) cs) (run shanghai (opened rs bs ps) cs) g
-  row cs g l = demand rs bs ps o cs .either-market .rows g (ltb-true g (length ((pastOf (placesLent ps) cs) .groups)) l)
+module _ (lent : Memory) (o : openRefusal lent ≡ 0) where
+  row : (cs : List Call) (g : ℕ) → ltb g (length ((pastOf (placesLent lent) cs) .groups)) ≡ true → RowIs (pastOf (placesLent lent) cs) (run shanghai (opened lent) cs) g
+  row cs g l = demand lent o cs .either-market .rows g (ltb-true g (length ((pastOf (placesLent lent) cs) .groups)) l)
 
-  carried : (c : Case) → Told (placesLent ps) c → Holds (opened rs bs ps) c
-  carried (Answered cs as-told) t = demand rs bs ps o cs .either-market .same-answers ∙ t
+  carried : (c : Case) → Told (placesLent lent) c → Holds (opened lent) c
+  carried (Answered cs as-told) t = demand lent o cs .either-market .same-answers ∙ t
   carried (MaximumIs cs g limit) t = row cs g (t .0) .maximum ∙ t .1
   carried (OwnIs cs g limit) t = row cs g (t .0) .own ∙ t .1
   carried (MoneyIs cs g money) t = row cs g (t .0) .money ∙ t .1
   carried (NetIs cs g net) t = row cs g (t .0) .net ∙ t .1
 
-  all-carried : (cases : List Case) → Every (Told (placesLent ps)) cases → Every (Holds (opened rs bs ps)) cases
+  all-carried : (cases : List Case) → Every (Told (placesLent lent)) cases → Every (Holds (opened lent)) cases
   all-carried [] t = tt
   all-carried (c ∷ cases) t = (carried c (t .0), all-carried cases (t .1))
 
 -- E1 to E8, over every lent memory with N = 4
-pub edges-hold : (rs bs ps : List ℕ) → openRefusal rs bs ps ≡ 0 → placesLent ps ≡ 4 → Every (Holds (opened rs bs ps)) edges
-edges-hold rs bs ps o four = all-carried rs bs ps o edges (subst (λ N. Every (Told N) edges) (sym four) told)
+pub edges-hold : (lent : Memory) → openRefusal lent ≡ 0 → placesLent lent ≡ 4 → Every (Holds (opened lent)) edges
+edges-hold lent o four = all-carried lent o edges (subst (λ N. Every (Told N) edges) (sym four) told)
 
 -- such memory can be lent, as of words 7: the opening of it is proper, and N is 4
-pub four-lent : (openRefusal (replicate registerLength 7) (replicate bookLength 7) (replicate 16 7) ≡ 0) × (placesLent (replicate 16 7) ≡ 4)
+pub four-lent : (openRefusal (memory (replicate registerLength 7) (replicate bookLength 7) (replicate 16 7)) ≡ 0) × (placesLent (memory (replicate registerLength 7) (replicate bookLength 7) (replicate 16 7)) ≡ 4)
 unfolding openRefusal
 four-lent = (refl, refl)

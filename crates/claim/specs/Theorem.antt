@@ -72,9 +72,9 @@ asked h rs s = record {
   own-same = quotas.asks-own h rs s;
 }
 
-book-sound : (rs bs ps : List ℕ) → hostOk rs bs ps ≡ true → bookSound rs bs ps ≡ true
+book-sound : (m : Memory) → hostOk (m .register) (m .book) (m .places) ≡ true → bookSound m ≡ true
 unfolding hostOk bookSound
-book-sound rs bs ps e = both (asks.isSound rs) (bookOk bs ps (asks.groupsEnrolled rs)) e .1
+book-sound m e = both (asks.isSound (m .register)) (bookOk (m .book) (m .places) (asks.groupsEnrolled (m .register))) e .1
 
 module _ (N : ℕ) (rule : Rule) (h : History) (m : Memory) (s : Sim N h m) where
   -- calls 1 to 7: a refusal that is the history's, a register that is kept, orders that are left alone
@@ -84,7 +84,7 @@ module _ (N : ℕ) (rule : Rule) (h : History) (m : Memory) (s : Sim N h m) wher
       × Sim N (next N rule h c) ((onRegister m (unlessRefused q (accepted n) (refused q)) rs′) .memory)
   unfolding answer next
   on-register c q n rs′ e f k u o =
-      rw (book-sound (m .register) (m .book) (m .places) (s .host), ← e, ← f) (refl, go q refl)
+      rw (book-sound m (s .host), ← e, ← f) (refl, go q refl)
     where
       go : (r : ℕ) → q ≡ r → Sim N (unlessRefused r (accept h c) h) (memory rs′ (m .book) (m .places))
       go zero z = record {
@@ -235,7 +235,7 @@ module _ (N : ℕ) (rule : Rule) (h : History) (m : Memory) (s : Sim N h m) wher
   close-steps =
       let k = quotas.close-kept h (m .register) (s .quota) in
       let e : step rule m Close ≡ record { answer = accepted 0; memory = memory (quota.closeAfter (m .register)) (orders.closedBook (m .book)) (m .places) } =
-      rw (book-sound (m .register) (m .book) (m .places) (s .host), quotas.close-same h (m .register) (s .quota)) in
+      rw (book-sound m (s .host), quotas.close-same h (m .register) (s .quota)) in
       record {
         same = rw e;
         sim = rw e (record {
@@ -273,18 +273,18 @@ module _ (N : ℕ) (rule : Rule) where
 
 -- ---- the opening
 
-open-known : (rs bs ps : List ℕ) → openRefusal rs bs ps ≡ 0 → (eqb (length ps) (placeWords * placesLent ps) ≡ true) × (isPlaces (placesLent ps) ≡ true)
+open-known : (lent : Memory) → openRefusal lent ≡ 0 → (eqb (length (lent .places)) (placeWords * placesLent lent) ≡ true) × (isPlaces (placesLent lent) ≡ true)
 unfolding openRefusal
-open-known rs bs ps e = go (eqb (length rs) registerLength && (eqb (length bs) bookLength && places)) refl e
+open-known lent e = go (eqb (length (lent .register)) registerLength && (eqb (length (lent .book)) bookLength && places)) refl e
   where
     places : Bool
-    places = eqb (length ps) (placeWords * placesLent ps) && isPlaces (placesLent ps)
+    places = eqb (length (lent .places)) (placeWords * placesLent lent) && isPlaces (placesLent lent)
 
-    go : (t : Bool) → (eqb (length rs) registerLength && (eqb (length bs) bookLength && places)) ≡ t → pick t 0 UNSOUND ≡ 0 → (eqb (length ps) (placeWords * placesLent ps) ≡ true) × (isPlaces (placesLent ps) ≡ true)
+    go : (t : Bool) → (eqb (length (lent .register)) registerLength && (eqb (length (lent .book)) bookLength && places)) ≡ t → pick t 0 UNSOUND ≡ 0 → (eqb (length (lent .places)) (placeWords * placesLent lent) ≡ true) × (isPlaces (placesLent lent) ≡ true)
     go true q z =
-        let a = both (eqb (length rs) registerLength) (eqb (length bs) bookLength && places) q in
-        let b = both (eqb (length bs) bookLength) places (a .1) in
-        both (eqb (length ps) (placeWords * placesLent ps)) (isPlaces (placesLent ps)) (b .1)
+        let a = both (eqb (length (lent .register)) registerLength) (eqb (length (lent .book)) bookLength && places) q in
+        let b = both (eqb (length (lent .book)) bookLength) places (a .1) in
+        both (eqb (length (lent .places)) (placeWords * placesLent lent)) (isPlaces (placesLent lent)) (b .1)
     go false q z = absurd (omega arith)
 
 none-in : (g : ℕ) → InMoney (moneyOf atOpening g)
@@ -306,14 +306,14 @@ fresh-host ps N e i =
       money = λ g a b. rw (z .money g) (none-in g);
     }))
 
-pub opened-sim : (rs bs ps : List ℕ) → openRefusal rs bs ps ≡ 0 → Sim (placesLent ps) atOpening (opened rs bs ps)
+pub opened-sim : (lent : Memory) → openRefusal lent ≡ 0 → Sim (placesLent lent) atOpening (opened lent)
 unfolding openRegister openBook
-opened-sim rs bs ps e =
-    let k = open-known rs bs ps e in
+opened-sim lent e =
+    let k = open-known lent e in
     rw e (record {
       quota = quotas.opening;
-      order = books.opening-sim (placesLent ps) (freshBook (placesLent ps)) ps refl;
-      host = fresh-host ps (placesLent ps) (k .0) (k .1);
+      order = books.opening-sim (placesLent lent) (freshBook (placesLent lent)) (lent .places) refl;
+      host = fresh-host (lent .places) (placesLent lent) (k .0) (k .1);
     })
 
 -- ---- what the simulation gives
@@ -432,16 +432,16 @@ next-accepted N rule h c e = rw e
 
 -- the third demand
 pub demand : ThirdDemand
-demand rs bs ps o cs =
-    let N : ℕ = placesLent ps in
-    let m : Memory = opened rs bs ps in
-    let s = opened-sim rs bs ps o in
+demand lent o cs =
+    let N : ℕ = placesLent lent in
+    let m : Memory = opened lent in
+    let s = opened-sim lent o in
     record {
-      either-market = demand-by shanghai (placesLent ps) (opened rs bs ps) s cs;
+      either-market = demand-by shanghai (placesLent lent) (opened lent) s cs;
       crossing = λ before unit kind price quantity rest own e b z k.
-          let H : History = after (placesLent ps) shanghai atOpening before in
-          let w = step-refusal (placesLent ps) shanghai (after (placesLent ps) shanghai atOpening before) (run shanghai (opened rs bs ps) before) (run-sim (placesLent ps) shanghai before atOpening (opened rs bs ps) s) (Order unit kind price quantity) in
-          let y : refusalOf (placesLent ps) shanghai (after (placesLent ps) shanghai atOpening before) (Order unit kind price quantity) ≡ 0 = sym w ∙ z in
-          rw (after-one (placesLent ps) shanghai before atOpening (Order unit kind price quantity), next-accepted (placesLent ps) shanghai (after (placesLent ps) shanghai atOpening before) (Order unit kind price quantity) y)
-          (buy-crosses (placesLent ps) (after (placesLent ps) shanghai atOpening before) unit kind price quantity b own y k);
+          let H : History = after (placesLent lent) shanghai atOpening before in
+          let w = step-refusal (placesLent lent) shanghai (after (placesLent lent) shanghai atOpening before) (run shanghai (opened lent) before) (run-sim (placesLent lent) shanghai before atOpening (opened lent) s) (Order unit kind price quantity) in
+          let y : refusalOf (placesLent lent) shanghai (after (placesLent lent) shanghai atOpening before) (Order unit kind price quantity) ≡ 0 = sym w ∙ z in
+          rw (after-one (placesLent lent) shanghai before atOpening (Order unit kind price quantity), next-accepted (placesLent lent) shanghai (after (placesLent lent) shanghai atOpening before) (Order unit kind price quantity) y)
+          (buy-crosses (placesLent lent) (after (placesLent lent) shanghai atOpening before) unit kind price quantity b own y k);
     }

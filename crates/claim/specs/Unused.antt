@@ -114,7 +114,7 @@ module _ (rs bs ps qs : List ℕ) (a : AlikeBelow (acceptedOf bs) ps qs) where
   unfolding hostOk bookOk
   host-same = rw (a .lengths)
 
-  sound-same : bookSound rs bs ps ≡ bookSound rs bs qs
+  sound-same : bookSound (memory rs bs ps) ≡ bookSound (memory rs bs qs)
   unfolding bookSound bookOk
   sound-same = rw (a .lengths)
 
@@ -154,13 +154,13 @@ module _ (rs bs ps qs : List ℕ) (a : AlikeBelow (acceptedOf bs) ps qs) where
 
   on-register : (answer : Answer) (rs′ : List ℕ) → Alike (onRegister (memory rs bs ps) answer rs′) (onRegister (memory rs bs qs) answer rs′)
   on-register answer rs′ =
-      split (bookSound rs bs qs)
+      split (bookSound (memory rs bs qs))
       (λ e. rw (sound-same, e) (record { answer = refl; left = with-book rs′ bs refl }))
       (λ e. rw (sound-same, e) (record { answer = refl; left = with-book rs bs refl }))
 
   enrol-alike : (code class : ℕ) → Alike (enrolling (memory rs bs ps) code class) (enrolling (memory rs bs qs) code class)
   enrol-alike code class =
-      split (bookSound rs bs qs)
+      split (bookSound (memory rs bs qs))
       (λ e. rw (sound-same, e) (record { answer = refl; left = with-book (enrolAfter rs code class) (enrolledBook rs bs code class) (go (enrolRefusal rs code class)) }))
       (λ e. rw (sound-same, e) (record { answer = refl; left = with-book rs bs refl }))
     where
@@ -169,17 +169,17 @@ module _ (rs bs ps qs : List ℕ) (a : AlikeBelow (acceptedOf bs) ps qs) where
       go (suc r) = refl
 
   -- after the close no number is given
-  closed-none : bookSound rs bs qs ≡ true → acceptedOf (closedBook bs) ≡ 0
+  closed-none : bookSound (memory rs bs qs) ≡ true → acceptedOf (closedBook bs) ≡ 0
   unfolding bookSound closedBook
   closed-none e = accepted-of-closed bs (book-known bs qs (groupsEnrolled rs) e .book-length)
 
   close-alike : Alike (closingSound (memory rs bs ps)) (closingSound (memory rs bs qs))
   close-alike =
-      split (bookSound rs bs qs)
+      split (bookSound (memory rs bs qs))
       (λ e. go e (closeRefusal rs) refl)
       (λ e. rw (sound-same, e) (record { answer = refl; left = with-book rs bs refl }))
     where
-      go : bookSound rs bs qs ≡ true → (r : ℕ) → closeRefusal rs ≡ r → Alike (closingSound (memory rs bs ps)) (closingSound (memory rs bs qs))
+      go : bookSound (memory rs bs qs) ≡ true → (r : ℕ) → closeRefusal rs ≡ r → Alike (closingSound (memory rs bs ps)) (closingSound (memory rs bs qs))
       go e zero z =
           rw (sound-same, e, z)
           (record {
@@ -300,14 +300,14 @@ run-unused rule (c ∷ cs) m n s =
     record { answers = rw (t .answer, u .answers); left = u .left }
 
 -- gates that were opened over as many places, of any contents
-open-same : (rs bs ps qs : List ℕ) → length ps ≡ length qs → openRefusal rs bs ps ≡ openRefusal rs bs qs
+open-same : (rs bs ps qs : List ℕ) → length ps ≡ length qs → openRefusal (memory rs bs ps) ≡ openRefusal (memory rs bs qs)
 unfolding openRefusal
 open-same rs bs ps qs l = rw l
 
-pub opened-alike : (rs bs ps qs : List ℕ) → length ps ≡ length qs → openRefusal rs bs ps ≡ 0 → SameGiven (opened rs bs ps) (opened rs bs qs)
+pub opened-alike : (rs bs ps qs : List ℕ) → length ps ≡ length qs → openRefusal (memory rs bs ps) ≡ 0 → SameGiven (opened (memory rs bs ps)) (opened (memory rs bs qs))
 unfolding openRegister openBook
 opened-alike rs bs ps qs l e =
-    let f : openRefusal rs bs qs ≡ 0 = sym (open-same rs bs ps qs l) ∙ e in
+    let f : openRefusal (memory rs bs qs) ≡ 0 = sym (open-same rs bs ps qs l) ∙ e in
     rw (e, f) (record { register = refl; book = ap (λ (n : ℕ). freshBook (n / 4)) l; places = record { lengths = l; words = λ i o. absurd (omega arith) } })
 
 -- ---- the words that a call writes
@@ -315,15 +315,15 @@ opened-alike rs bs ps qs l e =
 -- calls 1 to 7 and the close leave the places as they were
 module _ (m : Memory) where
   quota-kept : (answer : Answer) (rs : List ℕ) → (onRegister m answer rs) .memory .places ≡ m .places
-  quota-kept answer rs = split (bookSound (m .register) (m .book) (m .places)) (λ e. rw e) (λ e. rw e)
+  quota-kept answer rs = split (bookSound m) (λ e. rw e) (λ e. rw e)
 
   enrol-kept : (code class : ℕ) → (enrolling m code class) .memory .places ≡ m .places
-  enrol-kept code class = split (bookSound (m .register) (m .book) (m .places)) (λ e. rw e) (λ e. rw e)
+  enrol-kept code class = split (bookSound m) (λ e. rw e) (λ e. rw e)
 
   close-kept : (closingSound m) .memory .places ≡ m .places
-  close-kept = split (bookSound (m .register) (m .book) (m .places)) (λ e. go e (closeRefusal (m .register)) refl) (λ e. rw e)
+  close-kept = split (bookSound m) (λ e. go e (closeRefusal (m .register)) refl) (λ e. rw e)
     where
-      go : bookSound (m .register) (m .book) (m .places) ≡ true → (r : ℕ) → closeRefusal (m .register) ≡ r → (closingSound m) .memory .places ≡ m .places
+      go : bookSound m ≡ true → (r : ℕ) → closeRefusal (m .register) ≡ r → (closingSound m) .memory .places ≡ m .places
       go e zero z = rw (e, z)
       go e (suc r) z = rw (e, z)
 

@@ -14,32 +14,32 @@ use Rattle.book.specs.Layout.{noMoney, putMoney}
 use Rattle.orders.specs.Calls.{closedBook}
 use Rattle.claim.specs.Step.{Memory, Stepped, memory, bookSound, onRegister, enrolling, closing, closingSound}
 
-module _ (rs bs ps : List ℕ) (ok : Bool) (e : ok ≡ bookSound rs bs ps) where
+module _ (rs bs ps : List ℕ) (ok : Bool) (e : ok ≡ bookSound (memory rs bs ps)) where
   -- a call on the register alone
   pub on-register-refused : (answer : Answer) (after : List ℕ) (r : Answer) → not ok ≡ true → r ≡ refused UNSOUND
       → (r ≡ (onRegister (memory rs bs ps) answer after) .answer) × (memory rs bs ps ≡ (onRegister (memory rs bs ps) answer after) .memory)
   on-register-refused answer after r n p =
-      let f : bookSound rs bs ps ≡ false = sym e ∙ not-true ok n in
+      let f : bookSound (memory rs bs ps) ≡ false = sym e ∙ not-true ok n in
       rw f (p, refl)
 
   pub on-register-called : (answer : Answer) (after : List ℕ) (r : Answer) (xs : List ℕ) → not ok ≡ false → r ≡ answer → xs ≡ after
       → (r ≡ (onRegister (memory rs bs ps) answer after) .answer) × (memory xs bs ps ≡ (onRegister (memory rs bs ps) answer after) .memory)
   on-register-called answer after r xs n p q =
-      let f : bookSound rs bs ps ≡ true = sym e ∙ not-false ok n in
+      let f : bookSound (memory rs bs ps) ≡ true = sym e ∙ not-false ok n in
       rw f (p, ap (λ (z : List ℕ). memory z bs ps) q)
 
   -- call 1
   pub enrol-unsound : (code class : ℕ) (r : Answer) → not ok ≡ true → r ≡ refused UNSOUND
       → (r ≡ (enrolling (memory rs bs ps) code class) .answer) × (memory rs bs ps ≡ (enrolling (memory rs bs ps) code class) .memory)
   enrol-unsound code class r n p =
-      let f : bookSound rs bs ps ≡ false = sym e ∙ not-true ok n in
+      let f : bookSound (memory rs bs ps) ≡ false = sym e ∙ not-true ok n in
       rw f (p, refl)
 
   pub enrol-refused : (code class : ℕ) (r : Answer) (xs : List ℕ) → not ok ≡ false → r ≡ enrolAnswer rs code class → (r .refusal ≡ 0 → ⊥) → xs ≡ enrolAfter rs code class
       → (r ≡ (enrolling (memory rs bs ps) code class) .answer) × (memory xs bs ps ≡ (enrolling (memory rs bs ps) code class) .memory)
   unfolding enrolAnswer
   enrol-refused code class r xs n p h q =
-      let f : bookSound rs bs ps ≡ true = sym e ∙ not-false ok n in
+      let f : bookSound (memory rs bs ps) ≡ true = sym e ∙ not-false ok n in
       rw f (p, ap (λ (z : List ℕ). memory z bs ps) q ∙ ap (λ (z : List ℕ). memory (enrolAfter rs code class) z ps) (stays (enrolRefusal rs code class) refl))
     where
       stays : (z : ℕ) → enrolRefusal rs code class ≡ z → bs ≡ unlessRefused z (putMoney bs (groupsEnrolled rs) noMoney) bs
@@ -51,7 +51,7 @@ module _ (rs bs ps : List ℕ) (ok : Bool) (e : ok ≡ bookSound rs bs ps) where
       → (r ≡ (enrolling (memory rs bs ps) code class) .answer) × (memory xs ys ps ≡ (enrolling (memory rs bs ps) code class) .memory)
   unfolding enrolAnswer
   enrol-accepted code class r xs ys g n p h q k y =
-      let f : bookSound rs bs ps ≡ true = sym e ∙ not-false ok n in
+      let f : bookSound (memory rs bs ps) ≡ true = sym e ∙ not-false ok n in
       rw f (p, ap (λ (z : List ℕ). memory z ys ps) q ∙ ap (λ (z : List ℕ). memory (enrolAfter rs code class) z ps) (y ∙ ap (λ z. putMoney bs z noMoney) k ∙ put (enrolRefusal rs code class) refl))
     where
       put : (z : ℕ) → enrolRefusal rs code class ≡ z → putMoney bs (groupsEnrolled rs) noMoney ≡ unlessRefused z (putMoney bs (groupsEnrolled rs) noMoney) bs
@@ -64,7 +64,7 @@ module _ (rs bs ps : List ℕ) (ok : Bool) (e : ok ≡ bookSound rs bs ps) where
   pub close-unsound : (r : Answer) → not ok ≡ true → r ≡ refused UNSOUND
       → (r ≡ (closingSound (memory rs bs ps)) .answer) × (memory rs bs ps ≡ (closingSound (memory rs bs ps)) .memory)
   close-unsound r n p =
-      let f : bookSound rs bs ps ≡ false = sym e ∙ not-true ok n in
+      let f : bookSound (memory rs bs ps) ≡ false = sym e ∙ not-true ok n in
       rw f (p, refl)
 
   refused-is : (q : ℕ) → (q ≡ 0 → ⊥) → (closeRefusal rs ≡ q) → closing (memory rs bs ps) ≡ record { answer = refused q; memory = memory rs bs ps }
@@ -75,7 +75,7 @@ module _ (rs bs ps : List ℕ) (ok : Bool) (e : ok ≡ bookSound rs bs ps) where
       → (r ≡ (closingSound (memory rs bs ps)) .answer) × (memory xs bs ps ≡ (closingSound (memory rs bs ps)) .memory)
   unfolding closeAfter
   close-refused r q xs n x h p y =
-      let f : bookSound rs bs ps ≡ true = sym e ∙ not-false ok n in
+      let f : bookSound (memory rs bs ps) ≡ true = sym e ∙ not-false ok n in
       let z : closing (memory rs bs ps) ≡ record { answer = refused q; memory = memory rs bs ps } = refused-is q h (sym x) in
       let w : xs ≡ rs = y ∙ same q h (sym x) in
       rw (f, z) (p, ap (λ (t : List ℕ). memory t bs ps) w)
@@ -87,7 +87,7 @@ module _ (rs bs ps : List ℕ) (ok : Bool) (e : ok ≡ bookSound rs bs ps) where
   pub close-accepted : (r : Answer) (q : ℕ) (xs ys : List ℕ) → not ok ≡ false → q ≡ closeRefusal rs → q ≡ 0 → r ≡ accepted 0 → xs ≡ closeAfter rs → ys ≡ closedBook bs
       → (r ≡ (closingSound (memory rs bs ps)) .answer) × (memory xs ys ps ≡ (closingSound (memory rs bs ps)) .memory)
   close-accepted r q xs ys n x z p y b =
-      let f : bookSound rs bs ps ≡ true = sym e ∙ not-false ok n in
+      let f : bookSound (memory rs bs ps) ≡ true = sym e ∙ not-false ok n in
       let w : closeRefusal rs ≡ 0 = sym x ∙ z in
       rw (f, w) (p, ap (λ (t : List ℕ). memory t ys ps) y ∙ ap (λ (t : List ℕ). memory (closeAfter rs) t ps) b)
 

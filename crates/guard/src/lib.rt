@@ -17,7 +17,7 @@ use rules::refusals::UNSOUND;
 
 // The book is sound beside the register, and N places are lent.
 pub fn book_sound(register: &[u32], book: &[u64], places: &[u64]) -> bool
-    ensures { λ r. ⌜ r ≡ bookSound (now (register .entry)) (now (book .entry)) (now (places .entry)) ⌝ }
+    ensures { λ r. ⌜ r ≡ bookSound (memory (now (register .entry)) (now (book .entry)) (now (places .entry))) ⌝ }
 {
     book_ok(book, places, groups_enrolled(register))
 }

@@ -24,6 +24,7 @@ use Rattle.listing.specs.Text.{rowText, rowPut, listingText, sameKey, fresh, ro
 use Rattle.listing.specs.RowLaws.{length-row}
 use Rattle.listing.specs.Laws.{length-listing}
 use Rattle.lister.specs.Listed.{rowsOn, gateRows, listRefusal, listed}
+use Rattle.claim.specs.Step.{memory}
 
 module _ (rs bs : List ℕ) where
   -- the next row, and the others
@@ -141,7 +142,7 @@ module _ (rs bs : List ℕ) where
 -- ---- the refusal
 
 module _ (rs bs ps : List ℕ) (room : ℕ) where
-  pub list-unsound : hostOk rs bs ps ≡ false → 1 ≡ listRefusal rs bs ps room
+  pub list-unsound : hostOk rs bs ps ≡ false → 1 ≡ listRefusal (memory rs bs ps) room
   unfolding listRefusal
   list-unsound e = rw e
 
@@ -157,15 +158,15 @@ module _ (rs bs ps : List ℕ) (room : ℕ) where
         let l : leb (length (rowsOn rs bs 0 (groupsEnrolled rs))) 64 ≡ true = ap (λ (x : ℕ). leb x 64) (length-rows rs bs 0 (groupsEnrolled rs)) ∙ le-leb (groupsEnrolled rs) 64 enrolled-most in
         rw (e, l) (sym i)
 
-    pub list-broken : (k : Bool) → k ≡ rowsKept (rowsOn rs bs 0 (groupsEnrolled rs)) → k ≡ false → 1 ≡ listRefusal rs bs ps room
+    pub list-broken : (k : Bool) → k ≡ rowsKept (rowsOn rs bs 0 (groupsEnrolled rs)) → k ≡ false → 1 ≡ listRefusal (memory rs bs ps) room
     unfolding listRefusal
     list-broken k i f = rw (rows-are k i ∙ f)
 
-    pub list-short : (k : Bool) → k ≡ rowsKept (rowsOn rs bs 0 (groupsEnrolled rs)) → k ≡ true → room < rowBytes * groupsEnrolled rs → 22 ≡ listRefusal rs bs ps room
+    pub list-short : (k : Bool) → k ≡ rowsKept (rowsOn rs bs 0 (groupsEnrolled rs)) → k ≡ true → room < rowBytes * groupsEnrolled rs → 22 ≡ listRefusal (memory rs bs ps) room
     unfolding listRefusal
     list-short k i f h = rw (rows-are k i ∙ f, lt-ltb room (rowBytes * groupsEnrolled rs) h)
 
-    pub list-clear : (k : Bool) → k ≡ rowsKept (rowsOn rs bs 0 (groupsEnrolled rs)) → k ≡ true → rowBytes * groupsEnrolled rs ≤ room → 0 ≡ listRefusal rs bs ps room
+    pub list-clear : (k : Bool) → k ≡ rowsKept (rowsOn rs bs 0 (groupsEnrolled rs)) → k ≡ true → rowBytes * groupsEnrolled rs ≤ room → 0 ≡ listRefusal (memory rs bs ps) room
     unfolding listRefusal
     list-clear k i f h = rw (rows-are k i ∙ f, le-ltb room (rowBytes * groupsEnrolled rs) h)
 
@@ -185,7 +186,7 @@ clear-known rs bs ps room a b =
       holds = ltb-false room (rowBytes * groupsEnrolled rs) b;
     }
 
-pub list-known : (rs bs ps : List ℕ) (room r : ℕ) → r ≡ listRefusal rs bs ps room → r ≡ 0 → Clear rs bs room
+pub list-known : (rs bs ps : List ℕ) (room r : ℕ) → r ≡ listRefusal (memory rs bs ps) room → r ≡ 0 → Clear rs bs room
 unfolding listRefusal
 list-known rs bs ps room r e z = go (hostOk rs bs ps && listingKept (gateRows rs bs)) (ltb room (rowBytes * groupsEnrolled rs)) refl refl (sym e ∙ z)
   where
@@ -194,14 +195,14 @@ list-known rs bs ps room r e z = go (hostOk rs bs ps && listingKept (gateRows rs
     go true true p q k = absurd (omega arith)
     go false b p q k = absurd (omega arith)
 
-module _ (rs bs ps d : List ℕ) (r : ℕ) (e : r ≡ listRefusal rs bs ps (length d)) where
-  pub write-refused : (r ≡ 0 → ⊥) → (r ≡ listRefusal rs bs ps (length d)) × (d ≡ listed rs bs ps d)
+module _ (rs bs ps d : List ℕ) (r : ℕ) (e : r ≡ listRefusal (memory rs bs ps) (length d)) where
+  pub write-refused : (r ≡ 0 → ⊥) → (r ≡ listRefusal (memory rs bs ps) (length d)) × (d ≡ listed (memory rs bs ps) d)
   unfolding listed
-  write-refused n = (e, sym (where-refused (paste d 0 (listingText (gateRows rs bs)) (rowBytes * groupsEnrolled rs)) d (listRefusal rs bs ps (length d)) (λ z. n (e ∙ z))))
+  write-refused n = (e, sym (where-refused (paste d 0 (listingText (gateRows rs bs)) (rowBytes * groupsEnrolled rs)) d (listRefusal (memory rs bs ps) (length d)) (λ z. n (e ∙ z))))
 
-  pub write-done : (b : List ℕ) → r ≡ 0 → b ≡ paste d 0 (listingText (rowsOn rs bs 0 (groupsEnrolled rs))) (rowBytes * groupsEnrolled rs) → (0 ≡ listRefusal rs bs ps (length d)) × (b ≡ listed rs bs ps d)
+  pub write-done : (b : List ℕ) → r ≡ 0 → b ≡ paste d 0 (listingText (rowsOn rs bs 0 (groupsEnrolled rs))) (rowBytes * groupsEnrolled rs) → (0 ≡ listRefusal (memory rs bs ps) (length d)) × (b ≡ listed (memory rs bs ps) d)
   unfolding listed gateRows
-  write-done b z p = (sym (sym e ∙ z), p ∙ sym (where-accepted (paste d 0 (listingText (rowsOn rs bs 0 (groupsEnrolled rs))) (rowBytes * groupsEnrolled rs)) d (listRefusal rs bs ps (length d)) (sym e ∙ z)))
+  write-done b z p = (sym (sym e ∙ z), p ∙ sym (where-accepted (paste d 0 (listingText (rowsOn rs bs 0 (groupsEnrolled rs))) (rowBytes * groupsEnrolled rs)) d (listRefusal (memory rs bs ps) (length d)) (sym e ∙ z)))
 
 pub put-end : (rs bs d b : List ℕ) (i n : ℕ) → i ≤ n → n ≤ i → b ≡ paste d 0 (listingText (rowsOn rs bs 0 i)) (rowBytes * i) → b ≡ paste d 0 (listingText (rowsOn rs bs 0 n)) (rowBytes * n)
 put-end rs bs d b i n h l e =

@@ -27,6 +27,7 @@ use Rattle.listing.specs.Text.{rowText, listingText}
 use Rattle.lister.specs.Listed.{listRefusal, listed}
 use Rattle.lister.specs.Claim.{historyRow, historyRowsOn, historyRows}
 use Rattle.lister.specs.Claimed.{listing-demand}
+use Rattle.claim.specs.Step.{Memory}
 
 -- n groups of class 4
 unfoldable pub enrols : ℕ → List Call
@@ -37,14 +38,14 @@ enrols (suc n) = Enrol n 4 ∷ enrols n
 abbrev morning : List Call
 morning = Enrol 1 1 ∷ Regular 1 0 (millions 3) (millions 8) ∷ Close ∷ OwnQuota 0 (millions 5) ∷ []
 
-module _ (rs bs ps : List ℕ) where
+module _ (lent : Memory) where
   -- after the calls, the listing into so many bytes is refused by n
   abbrev pub Lists : List Call → ℕ → ℕ → Type 0
-  Lists cs room n = listRefusal ((run shanghai (opened rs bs ps) cs) .register) ((run shanghai (opened rs bs ps) cs) .book) ((run shanghai (opened rs bs ps) cs) .places) room ≡ n
+  Lists cs room n = listRefusal (run shanghai (opened lent) cs) room ≡ n
 
   -- the buffer after it
   abbrev pub Leaves : List Call → List ℕ → List ℕ → Type 0
-  Leaves cs buffer told = listed ((run shanghai (opened rs bs ps) cs) .register) ((run shanghai (opened rs bs ps) cs) .book) ((run shanghai (opened rs bs ps) cs) .places) buffer ≡ told
+  Leaves cs buffer told = listed (run shanghai (opened lent) cs) buffer ≡ told
 
   pub record Answered : Type 0 where
     -- no group
@@ -66,13 +67,13 @@ module _ (rs bs ps : List ℕ) where
     -- "a longer one keeps its tail"
     pub tail : Leaves morning (replicate 111 7) (bytes "    1 1       8       5                    0                    0                    0                    0\n" ++ (7 ∷ 7 ∷ 7 ∷ []))
 
-  module _ (o : openRefusal rs bs ps ≡ 0) where
+  module _ (o : openRefusal lent ≡ 0) where
     pub answered : Answered
     unfolding enrols after next refusals accept isTaken find put without sumOver openIn boughtIn soldIn moneyIn netOf quotaDue closedQuota enrolRules regularRules ownQuotaRules byteAt marked number digits signedNet rowText listingText historyRow historyRowsOn historyRows
     answered = record {
-      none = (listing-demand rs bs ps o [] .refusal 0, listing-demand rs bs ps o [] .refusal 1);
-      one = (listing-demand rs bs ps o (Enrol 1 1 ∷ []) .refusal 0, listing-demand rs bs ps o (Enrol 1 1 ∷ []) .refusal 107, listing-demand rs bs ps o (Enrol 1 1 ∷ []) .refusal 108, listing-demand rs bs ps o (Enrol 1 1 ∷ []) .refusal 109);
-      two = (listing-demand rs bs ps o (Enrol 1 1 ∷ Enrol 1 1 ∷ Enrol 1 3 ∷ []) .refusal 108, listing-demand rs bs ps o (Enrol 1 1 ∷ Enrol 1 1 ∷ Enrol 1 3 ∷ []) .refusal 215, listing-demand rs bs ps o (Enrol 1 1 ∷ Enrol 1 1 ∷ Enrol 1 3 ∷ []) .refusal 216, listing-demand rs bs ps o (Enrol 1 1 ∷ Enrol 1 1 ∷ Enrol 1 3 ∷ []) .refusal 217);
-      all = (listing-demand rs bs ps o (enrols 64) .refusal 6_911, listing-demand rs bs ps o (enrols 64) .refusal 6_912);
-      tail = listing-demand rs bs ps o morning .text (replicate 111 7) (omega arith);
+      none = (listing-demand lent o [] .refusal 0, listing-demand lent o [] .refusal 1);
+      one = (listing-demand lent o (Enrol 1 1 ∷ []) .refusal 0, listing-demand lent o (Enrol 1 1 ∷ []) .refusal 107, listing-demand lent o (Enrol 1 1 ∷ []) .refusal 108, listing-demand lent o (Enrol 1 1 ∷ []) .refusal 109);
+      two = (listing-demand lent o (Enrol 1 1 ∷ Enrol 1 1 ∷ Enrol 1 3 ∷ []) .refusal 108, listing-demand lent o (Enrol 1 1 ∷ Enrol 1 1 ∷ Enrol 1 3 ∷ []) .refusal 215, listing-demand lent o (Enrol 1 1 ∷ Enrol 1 1 ∷ Enrol 1 3 ∷ []) .refusal 216, listing-demand lent o (Enrol 1 1 ∷ Enrol 1 1 ∷ Enrol 1 3 ∷ []) .refusal 217);
+      all = (listing-demand lent o (enrols 64) .refusal 6_911, listing-demand lent o (enrols 64) .refusal 6_912);
+      tail = listing-demand lent o morning .text (replicate 111 7) (omega arith);
     }

@@ -49,11 +49,11 @@ pub record ListedAs (h : History) (m : Memory) : Type 0 where
   -- and keep every rule of a listing
   pub kept : listingKept (historyRows h) ≡ true
   -- a listing is refused for a short buffer alone
-  pub refusal : (room : ℕ) → listRefusal (m .register) (m .book) (m .places) room ≡ pick (ltb room (108 * length (h .groups))) SHORT-BUFFER 0
+  pub refusal : (room : ℕ) → listRefusal m room ≡ pick (ltb room (108 * length (h .groups))) SHORT-BUFFER 0
   -- else it is the text of the history's rows, and the buffer keeps its tail
   pub text : (buffer : List ℕ) → 108 * length (h .groups) ≤ length buffer
-      → listed (m .register) (m .book) (m .places) buffer ≡ paste buffer 0 (listingText (historyRows h)) (108 * length (h .groups))
+      → listed m buffer ≡ paste buffer 0 (listingText (historyRows h)) (108 * length (h .groups))
 
 -- the claim
 abbrev pub ListingDemand : Type 0
-ListingDemand = (rs bs ps : List ℕ) → openRefusal rs bs ps ≡ 0 → (cs : List Call) → ListedAs (after (placesLent ps) shanghai atOpening cs) (run shanghai (opened rs bs ps) cs)
+ListingDemand = (lent : Memory) → openRefusal lent ≡ 0 → (cs : List Call) → ListedAs (after (placesLent lent) shanghai atOpening cs) (run shanghai (opened lent) cs)

@@ -149,15 +149,15 @@ module _ (N : ℕ) (h : History) (m : Memory) (s : Sim N h m) where
       let few : groupCount (m .register) ≤ 64 = register-known (m .register) (s .quota .sound) .1 in
       rw (le-leb (length (rowsOn (m .register) (m .book) 0 (groupsEnrolled (m .register)))) 64 (omega (arith, n, few, count))) (ap (λ (x : ℕ). rowsKept (rowsOn (m .register) (m .book) 0 x)) enrolled ∙ all-kept 0 (length (h .groups)) (omega (arith, count)))
 
-  refused-short : (room : ℕ) → listRefusal (m .register) (m .book) (m .places) room ≡ pick (ltb room (rowBytes * length (h .groups))) 22 0
+  refused-short : (room : ℕ) → listRefusal m room ≡ pick (ltb room (rowBytes * length (h .groups))) 22 0
   unfolding listRefusal
   refused-short room = rw (s .host, listing-kept, enrolled) refl
 
-  listed-text : (buffer : List ℕ) → listRefusal (m .register) (m .book) (m .places) (length buffer) ≡ 0
-      → listed (m .register) (m .book) (m .places) buffer ≡ paste buffer 0 (listingText (historyRows h)) (rowBytes * length (h .groups))
+  listed-text : (buffer : List ℕ) → listRefusal m (length buffer) ≡ 0
+      → listed m buffer ≡ paste buffer 0 (listingText (historyRows h)) (rowBytes * length (h .groups))
   unfolding listed
   listed-text buffer z =
-      where-accepted (paste buffer 0 (listingText (gateRows (m .register) (m .book))) (rowBytes * groupsEnrolled (m .register))) buffer (listRefusal (m .register) (m .book) (m .places) (length buffer)) z
+      where-accepted (paste buffer 0 (listingText (gateRows (m .register) (m .book))) (rowBytes * groupsEnrolled (m .register))) buffer (listRefusal m (length buffer)) z
       ∙ ap (λ (x : List Row). paste buffer 0 (listingText x) (rowBytes * groupsEnrolled (m .register))) rows-are
       ∙ ap (λ (x : ℕ). paste buffer 0 (listingText (historyRows h)) (rowBytes * x)) enrolled
 
@@ -169,8 +169,8 @@ module _ (N : ℕ) (h : History) (m : Memory) (s : Sim N h m) where
     text = λ buffer l. written buffer l;
   }
     where
-      written : (buffer : List ℕ) → rowBytes * length (h .groups) ≤ length buffer → listed (m .register) (m .book) (m .places) buffer ≡ paste buffer 0 (listingText (historyRows h)) (rowBytes * length (h .groups))
+      written : (buffer : List ℕ) → rowBytes * length (h .groups) ≤ length buffer → listed m buffer ≡ paste buffer 0 (listingText (historyRows h)) (rowBytes * length (h .groups))
       written buffer l = listed-text buffer (refused-short (length buffer) ∙ rw (le-ltb (length buffer) (rowBytes * length (h .groups)) l) refl)
 
 pub listing-demand : ListingDemand
-listing-demand rs bs ps o cs = listed-as (placesLent ps) (after (placesLent ps) shanghai atOpening cs) (run shanghai (opened rs bs ps) cs) (run-sim (placesLent ps) shanghai cs atOpening (opened rs bs ps) (opened-sim rs bs ps o))
+listing-demand lent o cs = listed-as (placesLent lent) (after (placesLent lent) shanghai atOpening cs) (run shanghai (opened lent) cs) (run-sim (placesLent lent) shanghai cs atOpening (opened lent) (opened-sim lent o))

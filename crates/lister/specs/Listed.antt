@@ -12,6 +12,7 @@ use Rattle.orders.specs.Host.{hostOk}
 use Rattle.rows.specs.Row.{rowAt}
 use Rattle.rows.specs.declared.Row.{Row}
 use Rattle.listing.specs.Text.{listingText, listingKept, rowBytes}
+use Rattle.claim.specs.Step.{Memory}
 
 -- the rows of n groups from number i on
 unfoldable pub rowsOn : List ℕ → List ℕ → ℕ → ℕ → List Row
@@ -22,17 +23,17 @@ rowsOn rs bs i (suc n) = (rowAt rs bs i) .row ∷ rowsOn rs bs (suc i) n
 unfoldable pub gateRows : List ℕ → List ℕ → List Row
 gateRows rs bs = rowsOn rs bs 0 (groupsEnrolled rs)
 
-unfoldable pub listRefusal : List ℕ → List ℕ → List ℕ → ℕ → ℕ
-listRefusal rs bs ps room =
+unfoldable pub listRefusal : Memory → ℕ → ℕ
+listRefusal m room =
     refusal (
-    (UNSOUND, not (hostOk rs bs ps && listingKept (gateRows rs bs)))
-    ∷ (SHORT-BUFFER, ltb room (rowBytes * groupsEnrolled rs))
+    (UNSOUND, not (hostOk (m .register) (m .book) (m .places) && listingKept (gateRows (m .register) (m .book))))
+    ∷ (SHORT-BUFFER, ltb room (rowBytes * groupsEnrolled (m .register)))
     ∷ []
     )
 
 -- every byte of the buffer afterwards
-unfoldable pub listed : List ℕ → List ℕ → List ℕ → List ℕ → List ℕ
-listed rs bs ps buffer =
-    unlessRefused (listRefusal rs bs ps (length buffer))
-    (paste buffer 0 (listingText (gateRows rs bs)) (rowBytes * groupsEnrolled rs))
+unfoldable pub listed : Memory → List ℕ → List ℕ
+listed m buffer =
+    unlessRefused (listRefusal m (length buffer))
+    (paste buffer 0 (listingText (gateRows (m .register) (m .book))) (rowBytes * groupsEnrolled (m .register)))
     buffer

@@ -6,6 +6,7 @@ ghost use lib.ListN.{length};
 ghost use lib.Seq.{paste};
 ghost use Rattle.listing.specs.Text.{listingText, fresh, rowsKept, rowBytes};
 ghost use Rattle.lister.specs.Listed.{rowsOn, listRefusal, listed};
+ghost use Rattle.claim.specs.Step.{memory};
 use listing::lines::ROW;
 use listing::lines::put_row;
 use orders::host::host_ok;
@@ -55,7 +56,7 @@ fn rows_kept(register: &[u32], book: &[u64], n: u64) -> bool
 
 // 1, 22 or 0.
 fn refusal_of_listing(register: &[u32], book: &[u64], places: &[u64], room: usize) -> u64
-    ensures { λ r. ⌜ r ≡ listRefusal (now (register .entry)) (now (book .entry)) (now (places .entry)) room ⌝ }
+    ensures { λ r. ⌜ r ≡ listRefusal (memory (now (register .entry)) (now (book .entry)) (now (places .entry))) room ⌝ }
 {
     if !host_ok(register, book, places) {
         return UNSOUND;
@@ -86,8 +87,8 @@ fn put_rows(register: &[u32], book: &[u64], n: u64, buffer: &mut [u8])
 
 // The gate's listing.
 pub fn write(register: &[u32], book: &[u64], places: &[u64], buffer: &mut [u8]) -> u64
-    ensures { λ r. ⌜ (r ≡ listRefusal (now (register .entry)) (now (book .entry)) (now (places .entry)) (length (now (buffer .entry))))
-        × (now (buffer .exit) ≡ listed (now (register .entry)) (now (book .entry)) (now (places .entry)) (now (buffer .entry))) ⌝ }
+    ensures { λ r. ⌜ (r ≡ listRefusal (memory (now (register .entry)) (now (book .entry)) (now (places .entry))) (length (now (buffer .entry))))
+        × (now (buffer .exit) ≡ listed (memory (now (register .entry)) (now (book .entry)) (now (places .entry))) (now (buffer .entry))) ⌝ }
 {
     let refusal = refusal_of_listing(register, book, places, buffer.len());
     if refusal != 0 {

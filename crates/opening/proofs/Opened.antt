@@ -14,6 +14,7 @@ use Rattle.words.specs.Words.{splice, stored}
 use Rattle.claim.specs.Opening.{placesLent, openRefusal, freshRegister, freshBook, openRegister, openBook}
 use Rattle.book.specs.Layout.{bookLength, clearedWords, placeWords}
 use Rattle.register.specs.Layout.{registerLength}
+use Rattle.claim.specs.Step.{Memory}
 
 stored-whole : (ws xs : List ℕ) → length ws ≡ length xs → stored ws 0 xs ≡ xs
 unfolding splice
@@ -23,36 +24,36 @@ stored-whole ws xs e =
     let d : drop (0 + length xs) ws ≡ [] = drop-of-length-le ws k in
     rw (le-leb (0 + length xs) (length ws) l) (ap (λ (z : List ℕ). xs ++ z) d ∙ append-nil xs)
 
-module _ (rs bs ps : List ℕ) where
+module _ (lent : Memory) where
   -- a proper opening: every slice has its length
-  pub open-known : openRefusal rs bs ps ≡ 0 → (length rs ≡ registerLength) × (length bs ≡ bookLength)
+  pub open-known : openRefusal lent ≡ 0 → (length (lent .register) ≡ registerLength) × (length (lent .book) ≡ bookLength)
   unfolding openRefusal
-  open-known e = go (eqb (length rs) registerLength && rest) refl e
+  open-known e = go (eqb (length (lent .register)) registerLength && rest) refl e
     where
       rest : Bool
-      rest = eqb (length bs) bookLength && (eqb (length ps) (placeWords * placesLent ps) && isPlaces (placesLent ps))
+      rest = eqb (length (lent .book)) bookLength && (eqb (length (lent .places)) (placeWords * placesLent lent) && isPlaces (placesLent lent))
 
-      go : (t : Bool) → (eqb (length rs) registerLength && rest) ≡ t → pick t 0 UNSOUND ≡ 0 → (length rs ≡ registerLength) × (length bs ≡ bookLength)
+      go : (t : Bool) → (eqb (length (lent .register)) registerLength && rest) ≡ t → pick t 0 UNSOUND ≡ 0 → (length (lent .register) ≡ registerLength) × (length (lent .book) ≡ bookLength)
       go true q z =
-          let a = both (eqb (length rs) registerLength) rest q in
-          let b = both (eqb (length bs) bookLength) (eqb (length ps) (placeWords * placesLent ps) && isPlaces (placesLent ps)) (a .1) in
-          (eqb-true (length rs) registerLength (a .0), eqb-true (length bs) bookLength (b .0))
+          let a = both (eqb (length (lent .register)) registerLength) rest q in
+          let b = both (eqb (length (lent .book)) bookLength) (eqb (length (lent .places)) (placeWords * placesLent lent) && isPlaces (placesLent lent)) (a .1) in
+          (eqb-true (length (lent .register)) registerLength (a .0), eqb-true (length (lent .book)) bookLength (b .0))
       go false q z = absurd (omega arith)
 
-  pub open-refused : (r : ℕ) → r ≡ openRefusal rs bs ps → (r ≡ 0 → ⊥) → (r ≡ openRefusal rs bs ps) × ((rs ≡ openRegister rs bs ps) × (bs ≡ openBook rs bs ps))
+  pub open-refused : (r : ℕ) → r ≡ openRefusal lent → (r ≡ 0 → ⊥) → (r ≡ openRefusal lent) × (((lent .register) ≡ openRegister lent) × ((lent .book) ≡ openBook lent))
   unfolding openRegister openBook
-  open-refused r e n = go (openRefusal rs bs ps) refl
+  open-refused r e n = go (openRefusal lent) refl
     where
-      go : (q : ℕ) → openRefusal rs bs ps ≡ q → (r ≡ openRefusal rs bs ps) × ((rs ≡ unlessRefused (openRefusal rs bs ps) freshRegister rs) × (bs ≡ unlessRefused (openRefusal rs bs ps) (freshBook (placesLent ps)) bs))
+      go : (q : ℕ) → openRefusal lent ≡ q → (r ≡ openRefusal lent) × (((lent .register) ≡ unlessRefused (openRefusal lent) freshRegister (lent .register)) × ((lent .book) ≡ unlessRefused (openRefusal lent) (freshBook (placesLent lent)) (lent .book)))
       go zero x = absurd (n (e ∙ x))
       go (suc q) x = (e, rw x (refl, refl))
 
-  pub open-done : (r : ℕ) (xs ys : List ℕ) → r ≡ openRefusal rs bs ps → r ≡ 0 → xs ≡ stored rs 0 freshRegister → ys ≡ stored bs 0 (freshBook (placesLent ps))
-      → (0 ≡ openRefusal rs bs ps) × ((xs ≡ openRegister rs bs ps) × (ys ≡ openBook rs bs ps))
+  pub open-done : (r : ℕ) (xs ys : List ℕ) → r ≡ openRefusal lent → r ≡ 0 → xs ≡ stored (lent .register) 0 freshRegister → ys ≡ stored (lent .book) 0 (freshBook (placesLent lent))
+      → (0 ≡ openRefusal lent) × ((xs ≡ openRegister lent) × (ys ≡ openBook lent))
   unfolding openRegister openBook
   open-done r xs ys e z x y =
-      let q : openRefusal rs bs ps ≡ 0 = sym e ∙ z in
+      let q : openRefusal lent ≡ 0 = sym e ∙ z in
       let k = open-known q in
-      let m : length rs ≡ length freshRegister = k .0 ∙ sym (length-replicate {A = ℕ} registerLength 0) in
-      let n : length bs ≡ length (freshBook (placesLent ps)) = k .1 ∙ sym (ap suc (length-replicate {A = ℕ} clearedWords 0)) in
-      rw q (refl, (x ∙ stored-whole rs freshRegister m, y ∙ stored-whole bs (freshBook (placesLent ps)) n))
+      let m : length (lent .register) ≡ length freshRegister = k .0 ∙ sym (length-replicate {A = ℕ} registerLength 0) in
+      let n : length (lent .book) ≡ length (freshBook (placesLent lent)) = k .1 ∙ sym (ap suc (length-replicate {A = ℕ} clearedWords 0)) in
+      rw q (refl, (x ∙ stored-whole (lent .register) freshRegister m, y ∙ stored-whole (lent .book) (freshBook (placesLent lent)) n))

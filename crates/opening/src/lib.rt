@@ -1,6 +1,7 @@
 // The opening: a fresh gate in a lent register and book of any content. No place is written.
 ghost use mathlib.Core.Path.{_≡_};
 ghost use Rattle.claim.specs.Opening.{openRefusal, openRegister, openBook};
+ghost use Rattle.claim.specs.Step.{memory};
 use book::layout::BOOK;
 use book::layout::PLACE_WORDS;
 use register::layout::REGISTER;
@@ -10,7 +11,7 @@ use words::store32;
 
 // 0, or 1 where a slice has another length or N, the places lent, is out of its range.
 pub fn refusal_of_opening(register: &[u32], book: &[u64], places: &[u64]) -> u64
-    ensures { λ r. ⌜ r ≡ openRefusal (now (register .entry)) (now (book .entry)) (now (places .entry)) ⌝ }
+    ensures { λ r. ⌜ r ≡ openRefusal (memory (now (register .entry)) (now (book .entry)) (now (places .entry))) ⌝ }
 {
     let n = places.len() / PLACE_WORDS;
     let whole = places.len() == PLACE_WORDS * n;
@@ -21,9 +22,9 @@ pub fn refusal_of_opening(register: &[u32], book: &[u64], places: &[u64]) -> u64
 
 // A fresh gate: nothing enrolled or attached, no order, N as many as the places lent.
 pub fn open(register: &mut [u32], book: &mut [u64], places: &[u64]) -> u64
-    ensures { λ r. ⌜ (r ≡ openRefusal (now (register .entry)) (now (book .entry)) (now (places .entry)))
-        × ((now (register .exit) ≡ openRegister (now (register .entry)) (now (book .entry)) (now (places .entry)))
-        × (now (book .exit) ≡ openBook (now (register .entry)) (now (book .entry)) (now (places .entry)))) ⌝ }
+    ensures { λ r. ⌜ (r ≡ openRefusal (memory (now (register .entry)) (now (book .entry)) (now (places .entry))))
+        × ((now (register .exit) ≡ openRegister (memory (now (register .entry)) (now (book .entry)) (now (places .entry))))
+        × (now (book .exit) ≡ openBook (memory (now (register .entry)) (now (book .entry)) (now (places .entry))))) ⌝ }
 {
     let refusal = refusal_of_opening(register, book, places);
     if refusal != 0 {

@@ -15,7 +15,7 @@ use Rattle.rules.specs.declared.calls.Call.{Call}
 use Rattle.rules.specs.declared.calls.Answer.{Answer}
 use Rattle.words.specs.Words.{splice, stored}
 use Rattle.quota.specs.Asks.{groupsEnrolled}
-use Rattle.claim.specs.Step.{Memory, step}
+use Rattle.claim.specs.Step.{Memory, step, memory}
 use Rattle.rows.specs.Row.{rowOf}
 use Rattle.rows.specs.declared.Row.{Row}
 use Rattle.rows.specs.declared.RowRead.{RowRead}
@@ -40,19 +40,19 @@ fits-room true room k z = go (ltb room k) refl z
     go true e y = absurd (omega arith)
     go false e y = ltb-false room k e
 
-module _ (rs bs ps : List ℕ) (room r : ℕ) (e : r ≡ listRefusal rs bs ps room) where
-  pub none-listed : (r ≡ 0 → ⊥) → 0 ≡ listedBytes rs bs ps room
+module _ (rs bs ps : List ℕ) (room r : ℕ) (e : r ≡ listRefusal (memory rs bs ps) room) where
+  pub none-listed : (r ≡ 0 → ⊥) → 0 ≡ listedBytes (memory rs bs ps) room
   unfolding listedBytes
-  none-listed n = sym (where-refused (rowBytes * groupsEnrolled rs) 0 (listRefusal rs bs ps room) (λ z. n (e ∙ z)))
+  none-listed n = sym (where-refused (rowBytes * groupsEnrolled rs) 0 (listRefusal (memory rs bs ps) room) (λ z. n (e ∙ z)))
 
   module _ (z : r ≡ 0) (n : ℕ) (g : n ≡ groupsEnrolled rs) where
     pub listed-fits : rowBytes * n ≤ room
     unfolding listRefusal
     listed-fits = omega (arith, g, fits-room (hostOk rs bs ps && listingKept (gateRows rs bs)) room (rowBytes * groupsEnrolled rs) (sym e ∙ z))
 
-    pub all-listed : rowBytes * n ≡ listedBytes rs bs ps room
+    pub all-listed : rowBytes * n ≡ listedBytes (memory rs bs ps) room
     unfolding listedBytes
-    all-listed = ap (λ (x : ℕ). rowBytes * x) g ∙ sym (where-accepted (rowBytes * groupsEnrolled rs) 0 (listRefusal rs bs ps room) (sym e ∙ z))
+    all-listed = ap (λ (x : ℕ). rowBytes * x) g ∙ sym (where-accepted (rowBytes * groupsEnrolled rs) 0 (listRefusal (memory rs bs ps) room) (sym e ∙ z))
 
 -- a row's words stored
 pub row-put : (d out : List ℕ) (r : Row) (m o s : ℕ) → m ≡ limitWord (r .maximum) → o ≡ limitWord (r .own) → s ≡ pick (r .below) 1 0
@@ -73,38 +73,38 @@ module _ (rs bs ps out : List ℕ) (group : ℕ) (read : RowRead) (e : read ≡ 
   same-refusal : read .refusal ≡ (rowOf rs bs ps group) .refusal
   same-refusal = ap (λ (x : RowRead). x .refusal) e
 
-  refused-so : (q : ℕ) → q ≡ handedRefusal rs bs ps group (length out) → (q ≡ 0 → ⊥) → out ≡ handedRow rs bs ps group out
+  refused-so : (q : ℕ) → q ≡ handedRefusal (memory rs bs ps) group (length out) → (q ≡ 0 → ⊥) → out ≡ handedRow (memory rs bs ps) group out
   unfolding handedRow
   refused-so q p n =
-      sym (where-refused (splice out 0 (rowWords ((rowOf rs bs ps group) .row))) out (handedRefusal rs bs ps group (length out)) (λ z. n (p ∙ z)))
+      sym (where-refused (splice out 0 (rowWords ((rowOf rs bs ps group) .row))) out (handedRefusal (memory rs bs ps) group (length out)) (λ z. n (p ∙ z)))
 
-  pub row-refused : (read .refusal ≡ 0 → ⊥) → (read .refusal ≡ handedRefusal rs bs ps group (length out)) × (out ≡ handedRow rs bs ps group out)
+  pub row-refused : (read .refusal ≡ 0 → ⊥) → (read .refusal ≡ handedRefusal (memory rs bs ps) group (length out)) × (out ≡ handedRow (memory rs bs ps) group out)
   unfolding handedRefusal
   row-refused n =
-      let p : read .refusal ≡ handedRefusal rs bs ps group (length out) =
+      let p : read .refusal ≡ handedRefusal (memory rs bs ps) group (length out) =
       same-refusal ∙ sym (where-refused (pick (ltb (length out) rowLength) SHORT-BUFFER 0) ((rowOf rs bs ps group) .refusal) ((rowOf rs bs ps group) .refusal) (λ z. n (same-refusal ∙ z))) in
       (p, refused-so (read .refusal) p n)
 
   module _ (z : read .refusal ≡ 0) where
-    room-decides : handedRefusal rs bs ps group (length out) ≡ pick (ltb (length out) rowLength) SHORT-BUFFER 0
+    room-decides : handedRefusal (memory rs bs ps) group (length out) ≡ pick (ltb (length out) rowLength) SHORT-BUFFER 0
     unfolding handedRefusal
     room-decides = where-accepted (pick (ltb (length out) rowLength) SHORT-BUFFER 0) ((rowOf rs bs ps group) .refusal) ((rowOf rs bs ps group) .refusal) (sym same-refusal ∙ z)
 
-    pub row-short : length out < 9 → (22 ≡ handedRefusal rs bs ps group (length out)) × (out ≡ handedRow rs bs ps group out)
+    pub row-short : length out < 9 → (22 ≡ handedRefusal (memory rs bs ps) group (length out)) × (out ≡ handedRow (memory rs bs ps) group out)
     row-short h =
         let s : pick (ltb (length out) rowLength) SHORT-BUFFER 0 ≡ 22 = rw (lt-ltb (length out) 9 h) in
-        let p : 22 ≡ handedRefusal rs bs ps group (length out) = sym (room-decides ∙ s) in
+        let p : 22 ≡ handedRefusal (memory rs bs ps) group (length out) = sym (room-decides ∙ s) in
         (p, refused-so 22 p (λ y. omega (arith, y)))
 
     pub row-handed : (d : List ℕ) (row : Row) → row ≡ read .row → 9 ≤ length out → d ≡ stored out 0 (rowWords row)
-        → (0 ≡ handedRefusal rs bs ps group (length out)) × (d ≡ handedRow rs bs ps group out)
+        → (0 ≡ handedRefusal (memory rs bs ps) group (length out)) × (d ≡ handedRow (memory rs bs ps) group out)
     unfolding handedRow
     row-handed d row w h q =
         let s : pick (ltb (length out) rowLength) SHORT-BUFFER 0 ≡ 0 = rw (le-ltb (length out) 9 h) in
-        let p : handedRefusal rs bs ps group (length out) ≡ 0 = room-decides ∙ s in (
+        let p : handedRefusal (memory rs bs ps) group (length out) ≡ 0 = room-decides ∙ s in (
           sym p,
           q
               ∙ ap (λ (x : Row). stored out 0 (rowWords x)) (w ∙ ap (λ (x : RowRead). x .row) e)
               ∙ put-fits out ((rowOf rs bs ps group) .row) h
-              ∙ sym (where-accepted (splice out 0 (rowWords ((rowOf rs bs ps group) .row))) out (handedRefusal rs bs ps group (length out)) p),
+              ∙ sym (where-accepted (splice out 0 (rowWords ((rowOf rs bs ps group) .row))) out (handedRefusal (memory rs bs ps) group (length out)) p),
         )

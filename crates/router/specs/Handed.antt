@@ -14,10 +14,11 @@ use Rattle.rows.specs.Row.{rowOf}
 use Rattle.rows.specs.declared.Row.{Row}
 use Rattle.lister.specs.Listed.{listRefusal}
 use Rattle.listing.specs.Text.{rowBytes}
+use Rattle.claim.specs.Step.{Memory}
 
 -- a listing's bytes, "108 bytes a group"; none where it is refused
-unfoldable pub listedBytes : List ℕ → List ℕ → List ℕ → ℕ → ℕ
-listedBytes rs bs ps room = unlessRefused (listRefusal rs bs ps room) (rowBytes * groupsEnrolled rs) 0
+unfoldable pub listedBytes : Memory → ℕ → ℕ
+listedBytes m room = unlessRefused (listRefusal m room) (rowBytes * groupsEnrolled (m .register)) 0
 
 -- "-" as a word: no quota reaches it
 abbrev pub dash : ℕ
@@ -38,12 +39,12 @@ rowWords r =
     ∷ r .money .«open» .0 ∷ r .money .bought .0 ∷ r .money .sold .0 ∷ []
 
 -- the row's own refusal; else 22 where fewer than 9 words are lent, as for a listing's buffer
-unfoldable pub handedRefusal : List ℕ → List ℕ → List ℕ → ℕ → ℕ → ℕ
-handedRefusal rs bs ps group room =
-    unlessRefused ((rowOf rs bs ps group) .refusal)
+unfoldable pub handedRefusal : Memory → ℕ → ℕ → ℕ
+handedRefusal m group room =
+    unlessRefused ((rowOf (m .register) (m .book) (m .places) group) .refusal)
     (pick (ltb room rowLength) SHORT-BUFFER 0)
-    ((rowOf rs bs ps group) .refusal)
+    ((rowOf (m .register) (m .book) (m .places) group) .refusal)
 
 -- every lent word afterwards: "a longer one keeps its tail"
-unfoldable pub handedRow : List ℕ → List ℕ → List ℕ → ℕ → List ℕ → List ℕ
-handedRow rs bs ps group out = unlessRefused (handedRefusal rs bs ps group (length out)) (splice out 0 (rowWords ((rowOf rs bs ps group) .row))) out
+unfoldable pub handedRow : Memory → ℕ → List ℕ → List ℕ
+handedRow m group out = unlessRefused (handedRefusal m group (length out)) (splice out 0 (rowWords ((rowOf (m .register) (m .book) (m .places) group) .row))) out

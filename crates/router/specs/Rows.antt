@@ -36,13 +36,13 @@ use Rattle.router.specs.Handed.{rowLength, rowWords, handedRefusal, hand
 
 -- the row of group g, by the history
 pub record HandedAs (h : History) (m : Memory) (g : ℕ) : Type 0 where
-  pub refusal : (room : ℕ) → handedRefusal (m .register) (m .book) (m .places) g room ≡ pick (ltb room rowLength) SHORT-BUFFER 0
-  pub row : (out : List ℕ) → rowLength ≤ length out → handedRow (m .register) (m .book) (m .places) g out ≡ splice out 0 (rowWords (historyRow h g))
+  pub refusal : (room : ℕ) → handedRefusal m g room ≡ pick (ltb room rowLength) SHORT-BUFFER 0
+  pub row : (out : List ℕ) → rowLength ≤ length out → handedRow m g out ≡ splice out 0 (rowWords (historyRow h g))
 
 -- the claim
 abbrev pub RowDemand : Type 0
-RowDemand = (rs bs ps : List ℕ) → openRefusal rs bs ps ≡ 0 → (cs : List Call) (g : ℕ) → g < length ((after (placesLent ps) shanghai atOpening cs) .groups)
-    → HandedAs (after (placesLent ps) shanghai atOpening cs) (run shanghai (opened rs bs ps) cs) g
+RowDemand = (lent : Memory) → openRefusal lent ≡ 0 → (cs : List Call) (g : ℕ) → g < length ((after (placesLent lent) shanghai atOpening cs) .groups)
+    → HandedAs (after (placesLent lent) shanghai atOpening cs) (run shanghai (opened lent) cs) g
 
 -- row k of a list of rows
 
@@ -83,16 +83,16 @@ unfolding rowAt
 kept-clear rs bs g e = kept-shown ((groupAt rs g) .code) ((groupAt rs g) .class) ((groupAt rs g) .quota .maximum) (ownInForce rs g) (moneyAt bs g) e
 
 -- a row that is read without refusal is handed out
-module _ (rs bs ps : List ℕ) (g : ℕ) (r : Row) (z : (rowOf rs bs ps g) .refusal ≡ 0) (e : (rowOf rs bs ps g) .row ≡ r) where
-  room-decides : (room : ℕ) → handedRefusal rs bs ps g room ≡ pick (ltb room rowLength) SHORT-BUFFER 0
+module _ (m : Memory) (g : ℕ) (r : Row) (z : (rowOf (m .register) (m .book) (m .places) g) .refusal ≡ 0) (e : (rowOf (m .register) (m .book) (m .places) g) .row ≡ r) where
+  room-decides : (room : ℕ) → handedRefusal m g room ≡ pick (ltb room rowLength) SHORT-BUFFER 0
   unfolding handedRefusal
-  room-decides room = where-accepted (pick (ltb room rowLength) SHORT-BUFFER 0) ((rowOf rs bs ps g) .refusal) ((rowOf rs bs ps g) .refusal) z
+  room-decides room = where-accepted (pick (ltb room rowLength) SHORT-BUFFER 0) ((rowOf (m .register) (m .book) (m .places) g) .refusal) ((rowOf (m .register) (m .book) (m .places) g) .refusal) z
 
-  row-decides : (out : List ℕ) → rowLength ≤ length out → handedRow rs bs ps g out ≡ splice out 0 (rowWords r)
+  row-decides : (out : List ℕ) → rowLength ≤ length out → handedRow m g out ≡ splice out 0 (rowWords r)
   unfolding handedRow
   row-decides out l =
       let s : pick (ltb (length out) rowLength) SHORT-BUFFER 0 ≡ 0 = rw (le-ltb (length out) 9 l) in
-      where-accepted (splice out 0 (rowWords ((rowOf rs bs ps g) .row))) out (handedRefusal rs bs ps g (length out)) (room-decides (length out) ∙ s)
+      where-accepted (splice out 0 (rowWords ((rowOf (m .register) (m .book) (m .places) g) .row))) out (handedRefusal m g (length out)) (room-decides (length out) ∙ s)
       ∙ ap (λ (x : Row). splice out 0 (rowWords x)) e
 
 module _ (N : ℕ) (h : History) (m : Memory) (s : Sim N h m) (count : groupCount (m .register) ≡ length (h .groups)) (d : ListedAs h m) (g : ℕ) (l : g < length (h .groups)) where
@@ -137,15 +137,15 @@ module _ (N : ℕ) (h : History) (m : Memory) (s : Sim N h m) (count : groupCoun
       let z : (rowOf (m .register) (m .book) (m .places) g) .refusal ≡ 0 = ap (λ (x : RowRead). x .refusal) read ∙ kept-clear (m .register) (m .book) g row-kept in
       let e : (rowOf (m .register) (m .book) (m .places) g) .row ≡ historyRow h g = ap (λ (x : RowRead). x .row) read ∙ same-row in
       record {
-        refusal = room-decides (m .register) (m .book) (m .places) g (historyRow h g) z e;
-        row = row-decides (m .register) (m .book) (m .places) g (historyRow h g) z e;
+        refusal = room-decides m g (historyRow h g) z e;
+        row = row-decides m g (historyRow h g) z e;
       }
 
 pub row-demand : RowDemand
-row-demand rs bs ps o cs g l =
-    handed-as (placesLent ps) (after (placesLent ps) shanghai atOpening cs) (run shanghai (opened rs bs ps) cs)
-    (run-sim (placesLent ps) shanghai cs atOpening (opened rs bs ps) (opened-sim rs bs ps o))
-    (demand rs bs ps o cs .either-market .same-groups)
-    (listing-demand rs bs ps o cs)
+row-demand lent o cs g l =
+    handed-as (placesLent lent) (after (placesLent lent) shanghai atOpening cs) (run shanghai (opened lent) cs)
+    (run-sim (placesLent lent) shanghai cs atOpening (opened lent) (opened-sim lent o))
+    (demand lent o cs .either-market .same-groups)
+    (listing-demand lent o cs)
     g
     l

@@ -122,13 +122,13 @@ fails false b e = refl
 always-alone : (m : Memory) (c : Call) → Alone m (step shanghai m c)
 unfolding step enrolAnswer enrolAfter attachAfter detachAfter regularAfter raiseAfter withdrawAfter ownQuotaAfter closeAfter orderAnswer orderBook orderPlaces fillBook fillPlaces cancelBook cancelPlaces
 always-alone m (Enrol code class) =
-    alone-enrol m (bookSound (m .register) (m .book) (m .places)) (enrolRefusal (m .register) code class) (groupCount (m .register)) (addGroup (m .register) (freshGroup code class)) (putMoney (m .book) (groupsEnrolled (m .register)) noMoney)
-always-alone m (Attach unit group) = alone-register m (bookSound (m .register) (m .book) (m .places)) (attachRefusal (m .register) unit group) 0 (addUnit (m .register) unit group)
-always-alone m (Detach unit) = alone-register m (bookSound (m .register) (m .book) (m .places)) (detachRefusal (m .register) unit) 0 (removeUnit (m .register) unit)
-always-alone m (Regular declarer group base quota) = alone-register m (bookSound (m .register) (m .book) (m .places)) (regularRefusal (m .register) declarer group base quota) 0 (putGroup (m .register) group (declaredGroup (groupAt (m .register) group) declarer base quota))
-always-alone m (Raise declarer group quota flag) = alone-register m (bookSound (m .register) (m .book) (m .places)) (raiseRefusal (m .register) declarer group quota flag) 0 (putGroup (m .register) group (raisedGroup (groupAt (m .register) group) declarer quota))
-always-alone m (Withdraw declarer group) = alone-register m (bookSound (m .register) (m .book) (m .places)) (withdrawRefusal (m .register) declarer group) 0 (putGroup (m .register) group (filedGroup (groupAt (m .register) group)))
-always-alone m (OwnQuota group quota) = alone-register m (bookSound (m .register) (m .book) (m .places)) (ownQuotaRefusal (m .register) group quota) 0 (putGroup (m .register) group (ownGroup (groupAt (m .register) group) quota))
+    alone-enrol m (bookSound m) (enrolRefusal (m .register) code class) (groupCount (m .register)) (addGroup (m .register) (freshGroup code class)) (putMoney (m .book) (groupsEnrolled (m .register)) noMoney)
+always-alone m (Attach unit group) = alone-register m (bookSound m) (attachRefusal (m .register) unit group) 0 (addUnit (m .register) unit group)
+always-alone m (Detach unit) = alone-register m (bookSound m) (detachRefusal (m .register) unit) 0 (removeUnit (m .register) unit)
+always-alone m (Regular declarer group base quota) = alone-register m (bookSound m) (regularRefusal (m .register) declarer group base quota) 0 (putGroup (m .register) group (declaredGroup (groupAt (m .register) group) declarer base quota))
+always-alone m (Raise declarer group quota flag) = alone-register m (bookSound m) (raiseRefusal (m .register) declarer group quota flag) 0 (putGroup (m .register) group (raisedGroup (groupAt (m .register) group) declarer quota))
+always-alone m (Withdraw declarer group) = alone-register m (bookSound m) (withdrawRefusal (m .register) declarer group) 0 (putGroup (m .register) group (filedGroup (groupAt (m .register) group)))
+always-alone m (OwnQuota group quota) = alone-register m (bookSound m) (ownQuotaRefusal (m .register) group quota) 0 (putGroup (m .register) group (ownGroup (groupAt (m .register) group) quota))
 always-alone m (Order unit kind price quantity) =
     alone-book m (orderRefusal shanghai (m .register) (m .book) (m .places) unit kind price quantity) (acceptedOf (m .book) + 1)
     (putAccepted (putMoney (m .book) (groupOfUnit (m .register) unit) ((orderBooked (m .register) (m .book) unit kind price quantity) .money)) (acceptedOf (m .book) + 1))
@@ -141,7 +141,7 @@ always-alone m (Cancel order) =
     alone-book m (cancelRefusal (m .register) (m .book) (m .places) order) 0
     (putMoney (m .book) ((placeAt (m .places) order) .group) ((cancelBooked (m .book) (m .places) order) .money))
     (putOpen (m .places) order 0)
-always-alone m Close = alone-close m (bookSound (m .register) (m .book) (m .places)) (closeRefusal (m .register)) (closeAfter (m .register)) (closedBook (m .book))
+always-alone m Close = alone-close m (bookSound m) (closeRefusal (m .register)) (closeAfter (m .register)) (closedBook (m .book))
 
 always-hurt : (m : Memory) (c : Call) → isWhole m ≡ false → refusalIn (step shanghai m c) ≡ UNSOUND
 unfolding step hostOk isSound bookSound enrolRefusal enrolAnswer attachRefusal detachRefusal regularRefusal raiseRefusal withdrawRefusal ownQuotaRefusal closeRefusal orderRefusal orderAnswer fillRefusal cancelRefusal
@@ -186,13 +186,13 @@ first-refuses : (s b : Bool) (rules : List (ℕ × Bool)) → s ≡ false → re
 first-refuses true b rules e = absurd (false≢true (sym e))
 first-refuses false b rules e = refl
 
-pub listing-damaged : (rs bs ps : List ℕ) (room : ℕ) → hostOk rs bs ps ≡ false → listRefusal rs bs ps room ≡ UNSOUND
+pub listing-damaged : (m : Memory) (room : ℕ) → isWhole m ≡ false → listRefusal m room ≡ UNSOUND
 unfolding listRefusal
-listing-damaged rs bs ps room e = first-refuses (hostOk rs bs ps) (listingKept (gateRows rs bs)) ((SHORT-BUFFER, ltb room (rowBytes * groupsEnrolled rs)) ∷ []) e
+listing-damaged m room e = first-refuses (isWhole m) (listingKept (gateRows (m .register) (m .book))) ((SHORT-BUFFER, ltb room (rowBytes * groupsEnrolled (m .register))) ∷ []) e
 
-pub row-damaged : (rs bs ps : List ℕ) (group room : ℕ) → hostOk rs bs ps ≡ false → handedRefusal rs bs ps group room ≡ UNSOUND
+pub row-damaged : (m : Memory) (group room : ℕ) → isWhole m ≡ false → handedRefusal m group room ≡ UNSOUND
 unfolding handedRefusal rowOf rowRefusal
-row-damaged rs bs ps group room e = rw e
+row-damaged m group room e = rw e
 
 -- a code that is no call's: the call that it stands for, and its answer
 

@@ -41,9 +41,9 @@ pub struct Answer {
 // A fresh gate in a register and a book of any content, with as many order places as are lent; no place is written.
 #[no_mangle]
 pub extern "C" fn ekhurtza_open(register: &mut [u32], book: &mut [u64], places: &[u64]) -> u64
-    ensures { λ r. ⌜ (r ≡ openRefusal (now (register .entry)) (now (book .entry)) (now (places .entry)))
-        × ((now (register .exit) ≡ openRegister (now (register .entry)) (now (book .entry)) (now (places .entry)))
-        × (now (book .exit) ≡ openBook (now (register .entry)) (now (book .entry)) (now (places .entry)))) ⌝ }
+    ensures { λ r. ⌜ (r ≡ openRefusal (memory (now (register .entry)) (now (book .entry)) (now (places .entry))))
+        × ((now (register .exit) ≡ openRegister (memory (now (register .entry)) (now (book .entry)) (now (places .entry))))
+        × (now (book .exit) ≡ openBook (memory (now (register .entry)) (now (book .entry)) (now (places .entry))))) ⌝ }
 {
     open(register, book, places)
 }
@@ -80,9 +80,9 @@ pub extern "C" fn ekhurtza_listing(
     places: &[u64],
     buffer: &mut [u8],
 ) -> Answer
-    ensures { λ r. ⌜ (r .refusal ≡ listRefusal (now (register .entry)) (now (book .entry)) (now (places .entry)) (length (now (buffer .entry))))
-        × ((r .number ≡ listedBytes (now (register .entry)) (now (book .entry)) (now (places .entry)) (length (now (buffer .entry))))
-        × (now (buffer .exit) ≡ listed (now (register .entry)) (now (book .entry)) (now (places .entry)) (now (buffer .entry)))) ⌝ }
+    ensures { λ r. ⌜ (r .refusal ≡ listRefusal (memory (now (register .entry)) (now (book .entry)) (now (places .entry))) (length (now (buffer .entry))))
+        × ((r .number ≡ listedBytes (memory (now (register .entry)) (now (book .entry)) (now (places .entry))) (length (now (buffer .entry))))
+        × (now (buffer .exit) ≡ listed (memory (now (register .entry)) (now (book .entry)) (now (places .entry))) (now (buffer .entry)))) ⌝ }
 {
     let refusal = write(register, book, places, buffer);
     if refusal != 0 {
@@ -155,8 +155,8 @@ pub extern "C" fn ekhurtza_row(
     group: u64,
     out: &mut [u64],
 ) -> u64
-    ensures { λ r. ⌜ (r ≡ handedRefusal (now (register .entry)) (now (book .entry)) (now (places .entry)) group (length (now (out .entry))))
-        × (now (out .exit) ≡ handedRow (now (register .entry)) (now (book .entry)) (now (places .entry)) group (now (out .entry))) ⌝ }
+    ensures { λ r. ⌜ (r ≡ handedRefusal (memory (now (register .entry)) (now (book .entry)) (now (places .entry))) group (length (now (out .entry))))
+        × (now (out .exit) ≡ handedRow (memory (now (register .entry)) (now (book .entry)) (now (places .entry))) group (now (out .entry))) ⌝ }
 {
     let read = row_of(register, book, places, group);
     if read.refusal != 0 {

@@ -12,7 +12,7 @@ use Rattle.rules.specs.declared.calls.Call.{Call}
 use Rattle.history.specs.Past.{History, atOpening}
 use Rattle.history.specs.Answers.{refusals, answer}
 use Rattle.history.specs.Runs.{after, answers}
-use Rattle.claim.specs.Step.{step}
+use Rattle.claim.specs.Step.{step, Memory}
 use Rattle.claim.specs.Opening.{placesLent, openRefusal}
 use Rattle.claim.specs.Demand.{run, answersOf, opened}
 use Rattle.claim.specs.Theorem.{run-sim, opened-sim, steps, demand}
@@ -20,18 +20,18 @@ use Rattle.runs.specs.Runs.{callsOf, answerWords, runRefusal, runMemory,
 
 -- What `runs::run` leaves after an opening, by its contract and the third demand: in the room for the answers, word for word, the
 -- history's answers to the calls that the words say.
-pub run-answers-as-history : (rs bs ps ws out : List ℕ) → openRefusal rs bs ps ≡ 0 → runRefusal ws out ≡ 0
-    → runAnswers (opened rs bs ps) ws out ≡ answerWords (answers (placesLent ps) shanghai atOpening (callsOf ws))
+pub run-answers-as-history : (lent : Memory) (ws out : List ℕ) → openRefusal lent ≡ 0 → runRefusal ws out ≡ 0
+    → runAnswers (opened lent) ws out ≡ answerWords (answers (placesLent lent) shanghai atOpening (callsOf ws))
 unfolding runAnswers
-run-answers-as-history rs bs ps ws out o r =
-    where-accepted (answerWords (answersOf shanghai (opened rs bs ps) (callsOf ws))) out (runRefusal ws out) r
-    ∙ ap answerWords (demand rs bs ps o (callsOf ws) .either-market .same-answers)
+run-answers-as-history lent ws out o r =
+    where-accepted (answerWords (answersOf shanghai (opened lent) (callsOf ws))) out (runRefusal ws out) r
+    ∙ ap answerWords (demand lent o (callsOf ws) .either-market .same-answers)
 
 -- and the memory is the one of which the third demand speaks, rows, buys and crossing included
-pub run-memory-as-claimed : (rs bs ps ws out : List ℕ) → runRefusal ws out ≡ 0
-    → runMemory (opened rs bs ps) ws out ≡ run shanghai (opened rs bs ps) (callsOf ws)
+pub run-memory-as-claimed : (lent : Memory) (ws out : List ℕ) → runRefusal ws out ≡ 0
+    → runMemory (opened lent) ws out ≡ run shanghai (opened lent) (callsOf ws)
 unfolding runMemory
-run-memory-as-claimed rs bs ps ws out r = where-accepted (run shanghai (opened rs bs ps) (callsOf ws)) (opened rs bs ps) (runRefusal ws out) r
+run-memory-as-claimed lent ws out r = where-accepted (run shanghai (opened lent) (callsOf ws)) (opened lent) (runRefusal ws out) r
 
 -- a code that is no call's is answered 2 by the history
 no-call-answer : (N : ℕ) (h : History) → answer N shanghai h noCall ≡ refused OUT-OF-RANGE
@@ -39,7 +39,7 @@ unfolding answer refusals detachRules
 no-call-answer N h = refl
 
 -- and so by a gate that calls from a fresh one led to
-pub unknown-code : (rs bs ps : List ℕ) → openRefusal rs bs ps ≡ 0 → (cs : List Call) → (step shanghai (run shanghai (opened rs bs ps) cs) noCall) .answer ≡ refused OUT-OF-RANGE
-unknown-code rs bs ps o cs =
-    steps (placesLent ps) shanghai (after (placesLent ps) shanghai atOpening cs) (run shanghai (opened rs bs ps) cs) (run-sim (placesLent ps) shanghai cs atOpening (opened rs bs ps) (opened-sim rs bs ps o)) noCall .same
-    ∙ no-call-answer (placesLent ps) (after (placesLent ps) shanghai atOpening cs)
+pub unknown-code : (lent : Memory) → openRefusal lent ≡ 0 → (cs : List Call) → (step shanghai (run shanghai (opened lent) cs) noCall) .answer ≡ refused OUT-OF-RANGE
+unknown-code lent o cs =
+    steps (placesLent lent) shanghai (after (placesLent lent) shanghai atOpening cs) (run shanghai (opened lent) cs) (run-sim (placesLent lent) shanghai cs atOpening (opened lent) (opened-sim lent o)) noCall .same
+    ∙ no-call-answer (placesLent lent) (after (placesLent lent) shanghai atOpening cs)

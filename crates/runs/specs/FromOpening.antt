@@ -13,13 +13,13 @@ use Rattle.claim.specs.Demand.{run, opened, Demand}
 use Rattle.runs.specs.Runs.{callsOf, answerWords, runRefusal}
 
 -- 2 where the words are not five a call or the room is not two a call, 1 where the opening is refused
-unfoldable pub startRefusal : List ℕ → List ℕ → List ℕ → List ℕ → List ℕ → ℕ
-startRefusal rs bs ps ws out = unlessRefused (runRefusal ws out) (openRefusal rs bs ps) (runRefusal ws out)
+unfoldable pub startRefusal : Memory → List ℕ → List ℕ → ℕ
+startRefusal lent ws out = unlessRefused (runRefusal ws out) (openRefusal lent) (runRefusal ws out)
 
--- r is the answer, m the memory and room the answers' words that are left of rs, bs, ps and out
-pub record FromOpening (rs bs ps ws out : List ℕ) (r : ℕ) (m : Memory) (room : List ℕ) : Type 0 where
-  pub refusal : r ≡ startRefusal rs bs ps ws out
-  pub memory-is : m ≡ unlessRefused (startRefusal rs bs ps ws out) (run shanghai (opened rs bs ps) (callsOf ws)) (memory rs bs ps)
-  pub answers-are : room ≡ unlessRefused (startRefusal rs bs ps ws out) (answerWords (answers (placesLent ps) shanghai atOpening (callsOf ws))) out
+-- r is the answer, m the memory and room the answers' words that are left of what was lent and of out
+pub record FromOpening (lent : Memory) (ws out : List ℕ) (r : ℕ) (m : Memory) (room : List ℕ) : Type 0 where
+  pub refusal : r ≡ startRefusal lent ws out
+  pub memory-is : m ≡ unlessRefused (startRefusal lent ws out) (run shanghai (opened lent) (callsOf ws)) lent
+  pub answers-are : room ≡ unlessRefused (startRefusal lent ws out) (answerWords (answers (placesLent lent) shanghai atOpening (callsOf ws))) out
   -- the third demand, of this list from this opening
-  pub demanded : r ≡ 0 → Demand (placesLent ps) (opened rs bs ps) (callsOf ws)
+  pub demanded : r ≡ 0 → Demand (placesLent lent) (opened lent) (callsOf ws)

@@ -95,7 +95,7 @@ pub fn run_from_opening(
     calls: &[u64],
     answers: &mut [u64],
 ) -> u64
-    ensures { λ r. ⌜ FromOpening (now (register .entry)) (now (book .entry)) (now (places .entry)) (now (calls .entry)) (now (answers .entry)) r
+    ensures { λ r. ⌜ FromOpening (memory (now (register .entry)) (now (book .entry)) (now (places .entry))) (now (calls .entry)) (now (answers .entry)) r
         (memory (now (register .exit)) (now (book .exit)) (now (places .exit))) (now (answers .exit)) ⌝ }
 {
     let unfit = refusal_of_run(calls, answers);

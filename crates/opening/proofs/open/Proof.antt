@@ -4,6 +4,7 @@ use Rattle.opening.proofs.Opened.{open-refused, open-done}
 use borrow.Author.Needs.{needs}
 use Rattle.opening.proofs.open.Statement.{statement}
 use Rattle.opening.proofs.open.Tie as tie
+use Rattle.claim.specs.Step.{memory}
 
 refusal-of-opening-requires : tie.Need-refusal-of-opening-requires
 refusal-of-opening-requires c κs = search needs
@@ -15,7 +16,7 @@ same-length-2 : tie.Need-same-length-2
 same-length-2 c = search needs
 
 returns : tie.Need-returns
-returns c = open-refused (now (c .before .before .before .before .before .before .before .args .register)) (now (c .before .before .before .before .before .before .before .args .book)) (now (c .before .before .before .before .before .before .before .args .places)) (c .before .refusal-of-opening .result) (c .before .refusal-of-opening .ensures) (c .if1 .taken)
+returns c = open-refused (memory (now (c .before .before .before .before .before .before .before .args .register)) (now (c .before .before .before .before .before .before .before .args .book)) (now (c .before .before .before .before .before .before .before .args .places))) (c .before .refusal-of-opening .result) (c .before .refusal-of-opening .ensures) (c .if1 .taken)
 
 array-write-fresh : tie.Need-array-write-fresh
 array-write-fresh c = search needs
@@ -39,7 +40,7 @@ same-length-4 : tie.Need-same-length-4
 same-length-4 c = search needs
 
 returns-2 : tie.Need-returns-2
-returns-2 c = open-done (now (c .before .before .before .before .before .before .before .before .before .before .before .before .before .before .before .before .before .args .register)) (now (c .before .before .before .before .before .before .before .before .before .before .before .before .before .before .before .before .before .args .book)) (now (c .before .before .before .before .before .before .before .before .before .before .before .before .before .before .before .before .before .args .places)) (c .before .before .before .before .before .before .before .before .before .before .before .refusal-of-opening .result) _ _ (c .before .before .before .before .before .before .before .before .before .before .before .refusal-of-opening .ensures) (c .before .before .before .before .before .before .before .before .before .before .if1 .left) (c .before .before .store32 .ensures) (c .before .before .before .before .before .before .before .store .ensures)
+returns-2 c = open-done (memory (now (c .before .before .before .before .before .before .before .before .before .before .before .before .before .before .before .before .before .args .register)) (now (c .before .before .before .before .before .before .before .before .before .before .before .before .before .before .before .before .before .args .book)) (now (c .before .before .before .before .before .before .before .before .before .before .before .before .before .before .before .before .before .args .places))) (c .before .before .before .before .before .before .before .before .before .before .before .refusal-of-opening .result) _ _ (c .before .before .before .before .before .before .before .before .before .before .before .refusal-of-opening .ensures) (c .before .before .before .before .before .before .before .before .before .before .if1 .left) (c .before .before .store32 .ensures) (c .before .before .before .before .before .before .before .store .ensures)
 
 pub open-spec : {M : Type 1} → statement M
 open-spec =
