@@ -4,7 +4,7 @@
 //
 // Most cases follow from a range of "Money and names". Those marked C1, C2 and C3 follow from a reading in docs/DECISIONS.md alone, and so does the choice
 // of words (10,000,000 for a maximum of none, holders from 100,000 on for a filed withdrawal, 200,000 for nobody):
-//   C1: a group number of 63 or less that is not enrolled is out of its range ("A group number in memory ..")
+//   C1: a group number of 63 or less that is not enrolled is out of its range ("Whose ranges are those of a figure in memory?")
 //   C2: a price in a place that breaks its kind's price rule is out of its range ("When is a figure of a place out of its range?")
 //   C3: a figure that does not stand is held to its range, and an emergency figure that nobody holds is 0 ("What is in its range?")
 use crate::gate::{Gate, BOOK, MOST_GROUPS, PLACE, REGISTER, ROW_BYTES, ROW_WORDS};

@@ -29,21 +29,7 @@ pub fn is_enrolled(register: &[u32], group: u64) -> bool
     group < group_count(register)
 }
 
-// The unit is attached.
-pub fn is_attached(register: &[u32], unit: u64) -> bool
-    ensures { λ r. ⌜ r ≡ isAttached (now (register .entry)) unit ⌝ }
-{
-    units::is_attached(register, unit)
-}
-
-// The group of an attached unit; 0 where it is not attached.
-pub fn group_of_unit(register: &[u32], unit: u64) -> u64
-    ensures { λ r. ⌜ r ≡ groupOfUnit (now (register .entry)) unit ⌝ }
-{
-    units::group_of_unit(register, unit)
-}
-
-// Both at once.
+// Whether a unit is attached, and its group, 0 where it is not.
 pub struct Attachment {
     pub attached: bool,
     pub group: u64,

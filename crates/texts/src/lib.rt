@@ -98,8 +98,8 @@ pub fn refusal_of_text(text: &[u8]) -> u64
     first(!is_listing(text), MALFORMED, 0)
 }
 
-// What stands at a place of a text.
-pub fn step_at(text: &[u8], at: usize) -> Step
+// What stands at a place of a text that was checked.
+fn step_at(text: &[u8], at: usize) -> Step
     ensures { λ r. ⌜ r ≡ stepAt (now (text .entry)) at ⌝ }
 {
     if text.len() < ROW {

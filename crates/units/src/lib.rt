@@ -31,22 +31,7 @@ pub fn is_attached(register: &[u32], unit: u64) -> bool
     place_of(&register[FIRST_UNIT..FIRST_UNIT_GROUP], n, unit) < n
 }
 
-// The group of an attached unit; 0 where it is not attached.
-pub fn group_of_unit(register: &[u32], unit: u64) -> u64
-    ensures { λ r. ⌜ r ≡ orElse 0 (find unit (unitsOf (now (register .entry)))) ⌝ }
-{
-    if register.len() != REGISTER {
-        return 0;
-    }
-    let n = wide(register[UNITS]) as usize;
-    let k = place_of(&register[FIRST_UNIT..FIRST_UNIT_GROUP], n, unit);
-    if k < n {
-        return wide(register[FIRST_UNIT_GROUP + k]);
-    }
-    0
-}
-
-// Both at once: one search.
+// Whether a unit is attached, and its group, 0 where it is not: one search.
 pub struct Found {
     pub attached: bool,
     pub group: u64,
