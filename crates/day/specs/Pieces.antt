@@ -1,7 +1,7 @@
 -- An input that comes in pieces, any pieces, is answered as if it came whole (Whole.antt: `inPieces`, `day`). Assumes nothing.
 use Prim.Native.Nat.{ℕ, zero, suc, _+_, _-_, _/_, _≤_, _<_}
 use mathlib.Core.Path.{_≡_, refl, sym, ap, _∙_}
-use mathlib.Core.Bool.{Bool, true, false}
+use mathlib.Core.Bool.{Bool, true, false, _&&_}
 use mathlib.Core.List.{List, [], _∷_, _++_, append-assoc, append-nil}
 use native.Mathlib.Nat.{add-assoc, zero-add, le-div-iff-mul-le}
 use native.Mathlib.Omega.{arith}
@@ -13,7 +13,7 @@ use Rattle.rules.specs.Tests.{pick}
 use Rattle.rules.specs.Calls.{refused}
 use Rattle.rules.specs.Refusals.{MALFORMED}
 use Rattle.claim.specs.Step.{Memory, Stepped}
-use Rattle.day.specs.Day.{lineStep, printed, lineLength, isWhole, firstLine, behindLine, Told, noneTold, before, told}
+use Rattle.day.specs.Day.{lineStep, printed, lineLength, isWhole, firstLine, behindLine, Told, noneTold, before, told, restText}
 use Rattle.day.specs.Laws.{told-used}
 use Rattle.day.specs.Chunks.{joined, first-told, long-malformed, whole-later, first-later, behind-later, told-pieces, cut-alike, open-take}
 use Rattle.day.specs.Whole.{toldAll, behindLast, lastText, Printed, day, dayText, after, inPieces, joinedUp}
@@ -299,3 +299,12 @@ told-inside n m t from h = omega (arith, told-used n m (drop from t), length-dro
 -- what is cut out from a place to the end is all that stands behind it
 pub cut-all : (t : List ℕ) (from : ℕ) → take (length t - from) (drop from t) ≡ drop from t
 cut-all t from = take-all (length t - from) (drop from t) (omega (arith, length-drop from t))
+
+-- the bytes that are left over at the input's end are answered as the whole input's rule says, where the buffer has room for an answer
+pub rest-is-last : (rest out : List ℕ) → 10 ≤ length out → restText (length rest) out ≡ lastText rest
+unfolding restText
+rest-is-last rest out h = rw (le-leb 10 (length out) h) (go (leb 1 (length rest)))
+  where
+    go : (b : Bool) → pick (b && true) (printed (refused MALFORMED)) [] ≡ pick b (printed (refused MALFORMED)) []
+    go true = refl
+    go false = refl
