@@ -7,6 +7,7 @@ ghost use lib.Seq.{paste};
 ghost use Rattle.callfile.specs.Lines.{lineText, wordsFit, answerFits as answerFitsIn, callPut, answerPut, lineBytes};
 use callfile::layout::ANSWER_BYTES;
 use callfile::layout::CALL_BYTES;
+use callfile::layout::LINE_BYTES;
 use callfile::words::Words;
 use callfile::words::words_fit;
 use callfile::words::words_of;
@@ -42,7 +43,7 @@ pub fn put_call(out: &mut [u8], at: usize, call: Call)
         return;
     }
     put_words(out, at, w);
-    put_text(out, at + 38, b"\n");
+    put_text(out, at + LINE_BYTES, b"\n");
 }
 
 fn answer_fits(answer: Answer) -> bool
