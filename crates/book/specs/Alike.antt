@@ -68,13 +68,13 @@ book-alike vs bs l n a b m =
 abbrev placeRead : List ℕ → ℕ → Place
 placeRead ps k = record { group = getD ps (placeBase k) 0; kind = getD ps (placeBase k + 1) 0; price = mils (getD ps (placeBase k + 2) 0); «open» = getD ps (placeBase k + 3) 0 }
 
-pub place-alike : (vs ps : List ℕ) (k i : ℕ) → k < topOrder → i < 4 → placeAt vs (suc k) ≡ placeAt ps (suc k) → AlikeAt vs ps (placeWords * k + i)
+pub place-alike : (vs ps : List ℕ) (k i : ℕ) → k < topOrder → i < placeWords → placeAt vs (suc k) ≡ placeAt ps (suc k) → AlikeAt vs ps (placeWords * k + i)
 place-alike vs ps k i l q e = go i q
   where
     m : placeRead vs (suc k) ≡ placeRead ps (suc k)
     m = sym (place-is vs (suc k) (omega arith) (omega arith)) ∙ e ∙ place-is ps (suc k) (omega arith) (omega arith)
 
-    go : (j : ℕ) → j < 4 → AlikeAt vs ps (placeWords * k + j)
+    go : (j : ℕ) → j < placeWords → AlikeAt vs ps (placeWords * k + j)
     go zero z = alike-at vs ps (placeWords * k + 0) (placeBase (suc k)) (omega arith) (ap (λ (x : Place). x .group) m)
     go (suc zero) z = alike-at vs ps (placeWords * k + 1) (placeBase (suc k) + 1) (omega arith) (ap (λ (x : Place). x .kind) m)
     go (suc (suc zero)) z = alike-at vs ps (placeWords * k + 2) (placeBase (suc k) + 2) (omega arith) (ap (λ (x : Place). x .price .0) m)
@@ -85,7 +85,7 @@ place-alike vs ps k i l q e = go i q
 pub places-alike : (vs ps : List ℕ) (N : ℕ) → N ≤ topOrder → length vs ≡ placeWords * N → length ps ≡ placeWords * N → ((k : ℕ) → 1 ≤ k → k ≤ N → placeAt vs k ≡ placeAt ps k) → vs ≡ ps
 places-alike vs ps N n l m f =
     ext-getD 0 vs ps (l ∙ sym m)
-    (λ i h. strides (AlikeAt vs ps) 4 N (λ k j p q. place-alike vs ps k j (omega arith) q (f (suc k) (omega arith) (omega arith))) i (omega arith))
+    (λ i h. strides (AlikeAt vs ps) placeWords N (λ k j p q. place-alike vs ps k j (omega arith) q (f (suc k) (omega arith) (omega arith))) i (omega arith))
 
 -- ---- what is put into places of one length, alike up to order n
 

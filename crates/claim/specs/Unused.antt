@@ -63,7 +63,7 @@ Unwritten m (Regular declarer group base quota) i = Unit {0}
 Unwritten m (Raise declarer group quota flag) i = Unit {0}
 Unwritten m (Withdraw declarer group) i = Unit {0}
 Unwritten m (OwnQuota group quota) i = Unit {0}
-Unwritten m (Order unit kind price quantity) i = placeBase (acceptedOf (m .book) + 1) ≤ i → placeBase (acceptedOf (m .book) + 1) + 4 ≤ i
+Unwritten m (Order unit kind price quantity) i = placeBase (acceptedOf (m .book) + 1) ≤ i → placeBase (acceptedOf (m .book) + 1) + placeWords ≤ i
 Unwritten m (Fill order price quantity) i = i ≢ placeBase order + 3
 Unwritten m (Cancel order) i = i ≢ placeBase order + 3
 Unwritten m Close i = Unit {0}
@@ -308,7 +308,7 @@ pub opened-alike : (rs bs ps qs : List ℕ) → length ps ≡ length qs → open
 unfolding openRegister openBook
 opened-alike rs bs ps qs l e =
     let f : openRefusal (memory rs bs qs) ≡ 0 = sym (open-same rs bs ps qs l) ∙ e in
-    rw (e, f) (record { register = refl; book = ap (λ (n : ℕ). freshBook (n / 4)) l; places = record { lengths = l; words = λ i o. absurd (omega arith) } })
+    rw (e, f) (record { register = refl; book = ap (λ (n : ℕ). freshBook (n / placeWords)) l; places = record { lengths = l; words = λ i o. absurd (omega arith) } })
 
 -- ---- the words that a call writes
 
