@@ -17,11 +17,11 @@ use crate::layout::MONEY_WORDS;
 use crate::layout::PLACE_WORDS;
 use crate::layout::PLACES;
 use crate::places::Place;
-use kinds::price_ok;
 use rules::limits::TOP_MONEY;
 use rules::limits::TOP_ORDER;
 use rules::limits::TOP_QUANTITY;
 use rules::limits::smaller;
+use rules_kinds::price_ok;
 
 // The first n words of money joined bit by bit: none of them is above it.
 fn joined(book: &[u64], n: usize) -> u64

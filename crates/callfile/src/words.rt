@@ -2,7 +2,7 @@
 ghost use mathlib.Core.Path.{_≡_};
 ghost use Prim.Native.Nat.{_≤_};
 ghost use Rattle.callfile.specs.Lines.{coded as codedOf, wordsOf, fields as fieldsOf, usedOrZero, isCall, wordsFit};
-use powers::fits;
+use columns_powers::fits;
 use rules::calls::Call;
 
 pub struct Words {

@@ -1,5 +1,5 @@
 // gateday: call lines from standard input, an answer for each on standard output, and at the end the listing. N is 2,048.
-// What is answered and listed is decided in `day` and `lister`; here is only reading and writing.
+// What is answered and listed is decided in `day` and `gate_listing`; here is only reading and writing.
 ghost use mathlib.Core.Path.{_≡_};
 ghost use Prim.Native.Nat.{_+_, _≤_};
 ghost use lib.ListN.{length, drop};
@@ -11,9 +11,9 @@ use book::layout::PLACE_WORDS;
 use day::answer_lines;
 use day::answer_rest;
 use day::keep_rest;
-use lister::write;
+use gate_listing::write;
+use gate_open::open;
 use listing::lines::ROW;
-use opening::open;
 use quota::asks::groups_enrolled;
 use register::layout::REGISTER;
 

@@ -1,4 +1,4 @@
-// One row as a line of 108 bytes: written here, read in the crate `rowscan`.
+// One row as a line of 108 bytes: written here, read in the crate `listing_row`.
 ghost use mathlib.Core.Path.{_≡_};
 ghost use mathlib.Core.Bool.{true};
 ghost use Prim.Native.Nat.{_+_, _≤_};
@@ -7,9 +7,9 @@ ghost use lib.Seq.{paste};
 ghost use Rattle.rows.specs.Row.{rowKept};
 ghost use Rattle.listing.specs.Text.{limitPut, limitsPut, rowText, rowPut, rowBytes};
 use columns::bytes::put_text;
-use decimal::written::put_optional;
-use decimal::written::put_plain;
-use decimal::written::put_signed;
+use columns_write::written::put_optional;
+use columns_write::written::put_plain;
+use columns_write::written::put_signed;
 use rows::Row;
 use rows::row_kept;
 use rules::quotas::Limit;
@@ -64,7 +64,7 @@ fn write_row(out: &mut [u8], at: usize, row: Row)
     put_text(out, at + 107, b"\n");
 }
 
-// The row as a line from at on; nothing where it breaks its rules or has no room. It has no number to refuse by: `lister::write` has refused such a
+// The row as a line from at on; nothing where it breaks its rules or has no room. It has no number to refuse by: `gate_listing::write` has refused such a
 // row by 1 and such a buffer by 22 before the first row is put.
 pub fn put_row(out: &mut [u8], at: usize, row: Row)
     ensures { λ _. ⌜ now (out .exit) ≡ rowPut (now (out .entry)) at row ⌝ }

@@ -1,4 +1,4 @@
-// The reader of a listing: the crate `reader` has its functions.
+// The reader of a listing: the crate `listing_reader` has its functions.
 
 // The checked text, a position in it, and what the check said: 0, or 21 where the text is no listing; then no row is handed out.
 pub struct ListingReader<'a> {

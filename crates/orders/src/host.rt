@@ -3,8 +3,8 @@ ghost use mathlib.Core.Path.{_≡_};
 ghost use Rattle.orders.specs.Host.{hostOk, namedOk};
 use book::check::book_ok;
 use book::check::place_ok;
-use bookmoney::accepted_of;
-use bookplaces::place_at;
+use book_money::accepted_of;
+use book_places::place_at;
 use quota::asks::groups_enrolled;
 use quota::asks::is_sound;
 

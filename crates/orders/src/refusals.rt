@@ -5,13 +5,10 @@ ghost use Rattle.quota.specs.Asks.{groupOfUnit};
 ghost use Rattle.orders.specs.Calls.{readsIn, placeReads, orderListed, fillListed, cancelListed};
 use crate::host::host_ok;
 use crate::host::named_ok;
-use bookmoney::accepted_of;
-use bookmoney::money_at;
-use bookmoney::places_of;
-use bookplaces::place_at;
-use orderreasons::cancel_refusal;
-use orderreasons::fill_refusal;
-use orderreasons::order_refusal;
+use book_money::accepted_of;
+use book_money::money_at;
+use book_money::places_of;
+use book_places::place_at;
 use quota::asks::attachment_of;
 use quota::asks::own_in_force_of;
 use rules::money::Mils;
@@ -19,6 +16,9 @@ use rules::refusals::UNSOUND;
 use rules::refusals::first;
 use rules::trading::OrderReads;
 use rules::trading::PlaceReads;
+use rules_trading::cancel_refusal;
+use rules_trading::fill_refusal;
+use rules_trading::order_refusal;
 
 fn reads_of_order(register: &[u32], book: &[u64], attached: bool, group: u64) -> OrderReads
     ensures { λ r. ⌜ r ≡ readsIn (now (register .entry)) (now (book .entry)) attached group ⌝ }

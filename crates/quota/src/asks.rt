@@ -1,12 +1,12 @@
 // What the order layer may ask of a register. It knows the quota layer by these promises and nothing more.
 ghost use mathlib.Core.Path.{_≡_};
 ghost use Rattle.quota.specs.Asks.{isSound, groupsEnrolled, isEnrolled, isAttached, groupOfUnit, ownInForce};
-use groups::group_count;
-use groups::quota_at;
-use maxima::own_in_force;
+use register_check::register_ok;
+use register_groups::group_count;
+use register_groups::quota_at;
+use register_units::find_unit;
 use rules::quotas::Limit;
-use soundness::register_ok;
-use units::find_unit;
+use rules_quotas::own_in_force;
 
 // Every figure of the register is in its range.
 pub fn is_sound(register: &[u32]) -> bool

@@ -21,7 +21,7 @@ use Rattle.rows.specs.declared.Row.{Row}
 use Rattle.rows.specs.declared.RowRead.{RowRead}
 use Rattle.orders.specs.Host.{hostOk}
 use Rattle.listing.specs.Text.{listingKept, rowBytes}
-use Rattle.lister.specs.Listed.{gateRows, listRefusal}
+use Rattle.gate_listing.specs.Listed.{gateRows, listRefusal}
 use Rattle.router.specs.Handed.{listedBytes, limitWord, rowLength, rowWords, handedRefusal, handedRow}
 
 -- the call that the code names

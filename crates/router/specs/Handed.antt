@@ -12,7 +12,7 @@ use Rattle.words.specs.Words.{splice}
 use Rattle.quota.specs.Asks.{groupsEnrolled}
 use Rattle.rows.specs.Row.{rowOf}
 use Rattle.rows.specs.declared.Row.{Row}
-use Rattle.lister.specs.Listed.{listRefusal}
+use Rattle.gate_listing.specs.Listed.{listRefusal}
 use Rattle.listing.specs.Text.{rowBytes}
 use Rattle.claim.specs.Step.{Memory}
 

@@ -29,9 +29,9 @@ use Rattle.rows.specs.Row.{rowObeys, rowKept, noRow, refusedRow, madeRow, shown
 use Rattle.rows.specs.declared.Row.{Row}
 use Rattle.rows.specs.declared.RowRead.{RowRead}
 use Rattle.listing.specs.Text.{fresh, rowsKept, listingKept}
-use Rattle.lister.specs.Listed.{rowsOn, gateRows}
-use Rattle.lister.specs.Claim.{historyRow, historyRowsOn, historyRows, ListedAs}
-use Rattle.lister.specs.Claimed.{history-length, listing-demand}
+use Rattle.gate_listing.specs.Listed.{rowsOn, gateRows}
+use Rattle.gate_listing.specs.Claim.{historyRow, historyRowsOn, historyRows, ListedAs}
+use Rattle.gate_listing.specs.Claimed.{history-length, listing-demand}
 use Rattle.router.specs.Handed.{rowLength, rowWords, handedRefusal, handedRow}
 
 -- the row of group g, by the history

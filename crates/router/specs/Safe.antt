@@ -33,7 +33,7 @@ use Rattle.orders.specs.Calls.{unlessBroken, orderReads, placeReads, orderBooke
 use Rattle.orders.specs.declared.booking.Booked.{Booked}
 use Rattle.rows.specs.Row.{rowRefusal, rowOf}
 use Rattle.listing.specs.Text.{listingKept, rowBytes}
-use Rattle.lister.specs.Listed.{gateRows, listRefusal}
+use Rattle.gate_listing.specs.Listed.{gateRows, listRefusal}
 use Rattle.router.specs.Handed.{handedRefusal}
 use Rattle.claim.specs.Step.{Memory, Stepped, memory, bookSound, enrolledBook, step}
 

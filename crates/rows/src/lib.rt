@@ -4,13 +4,12 @@ ghost use mathlib.Core.Path.{_≡_};
 ghost use mathlib.Core.Bool.{true};
 ghost use Rattle.orders.specs.Booking.{moneyFits};
 ghost use Rattle.rows.specs.Row.{signedNet, madeRow, classKept, atMost, limitsKept, rowObeys, agree as agreeOf, netKept, rowKept, refusedRow, shownRow, rowRefusal, rowAt, rowOf};
-use bookkeeping::money_fits;
-use bookmoney::money_at;
-use groups::group_at;
-use maxima::is_none;
+use book_money::money_at;
 use orders::host::host_ok;
+use orders_booking::money_fits;
 use quota::asks::is_enrolled;
 use quota::asks::own_in_force_of;
+use register_groups::group_at;
 use rules::kinds::Money;
 use rules::limits::BROKERAGE;
 use rules::limits::TOP_CLASS;
@@ -24,6 +23,7 @@ use rules::refusals::NOT_THERE;
 use rules::refusals::OUT_OF_RANGE;
 use rules::refusals::UNSOUND;
 use rules::refusals::first;
+use rules_quotas::is_none;
 
 // Net as sign and size: below 0, or not.
 pub struct Net {
@@ -198,7 +198,7 @@ fn refusal_of_row(register: &[u32], book: &[u64], places: &[u64], group: u64) ->
     first(!host_ok(register, book, places), UNSOUND, r)
 }
 
-// The row that a group's words say, whether or not the rest of the memory is sound and the group enrolled: `row_of` and `lister::write` have refused by
+// The row that a group's words say, whether or not the rest of the memory is sound and the group enrolled: `row_of` and `gate_listing::write` have refused by
 // 1, and by 2 and 6, before. A listing of 64 rows would check the memory 64 times otherwise.
 pub fn row_at(register: &[u32], book: &[u64], group: u64) -> RowRead
     ensures { λ r. ⌜ r ≡ rowAt (now (register .entry)) (now (book .entry)) group ⌝ }

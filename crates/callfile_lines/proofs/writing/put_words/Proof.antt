@@ -1,0 +1,57 @@
+-- `callfile_lines::writing::put_words` meets its contract. Assumes nothing.
+use Rattle.callfile.specs.Laws.{fit}
+use Rattle.callfile_lines.proofs.Puts.{words-put}
+use borrow.Author.Needs.{needs}
+use Rattle.callfile_lines.proofs.writing.put_words.Statement.{statement}
+use Rattle.callfile_lines.proofs.writing.put_words.Tie as tie
+
+put-plain-requires : tie.Need-put-plain-requires
+put-plain-requires c κs = search needs
+
+add-put-plain : tie.Need-add-put-plain
+add-put-plain c = search needs
+
+put-plain-requires-2 : tie.Need-put-plain-requires-2
+put-plain-requires-2 c κs = search needs
+
+add-put-plain-2 : tie.Need-add-put-plain-2
+add-put-plain-2 c = search needs
+
+put-plain-requires-3 : tie.Need-put-plain-requires-3
+put-plain-requires-3 c κs = search needs
+
+add-put-plain-3 : tie.Need-add-put-plain-3
+add-put-plain-3 c = search needs
+
+put-plain-requires-4 : tie.Need-put-plain-requires-4
+put-plain-requires-4 c κs = search needs
+
+add-put-plain-4 : tie.Need-add-put-plain-4
+add-put-plain-4 c = search needs
+
+put-plain-requires-5 : tie.Need-put-plain-requires-5
+put-plain-requires-5 c κs = search needs
+
+same-length : tie.Need-same-length
+same-length c = search needs
+
+returns : tie.Need-returns
+returns c =
+    let a = c .before .before .before .before .before .before .before .before .before .before .before .before .before .before .before .before .before .before .before .before .before .args in
+    words-put (a .w) (a .at) (a .out .now) (c .before .before .before .before .before .before .before .before .before .before .before .before .before .before .before .before .before .before .put-plain .last .0) (c .before .before .before .before .before .before .before .before .before .before .before .before .before .before .put-plain2 .last .0) (c .before .before .before .before .before .before .before .before .before .before .put-plain3 .last .0) (c .before .before .before .before .before .before .put-plain4 .last .0) (c .before .before .put-plain5 .last .0) (c .before .before .before .before .before .before .before .before .before .before .before .before .before .before .before .before .before .before .before .before .before .pre .0) (fit (a .w) (c .before .before .before .before .before .before .before .before .before .before .before .before .before .before .before .before .before .before .before .before .before .pre .1)) (c .before .before .before .before .before .before .before .before .before .before .before .before .before .before .before .before .before .before .put-plain .ensures) (c .before .before .before .before .before .before .before .before .before .before .before .before .before .before .put-plain2 .ensures) (c .before .before .before .before .before .before .before .before .before .before .put-plain3 .ensures) (c .before .before .before .before .before .before .put-plain4 .ensures) (c .before .before .put-plain5 .ensures)
+
+pub put-words-spec : {M : Type 1} → statement M
+put-words-spec =
+    tie.close
+    (tie.spec
+    put-plain-requires
+    add-put-plain
+    put-plain-requires-2
+    add-put-plain-2
+    put-plain-requires-3
+    add-put-plain-3
+    put-plain-requires-4
+    add-put-plain-4
+    put-plain-requires-5
+    same-length
+    returns)

@@ -1,2 +1,0 @@
-// The gate over lent memory: one function for all eleven calls; the crate `opening` opens it. The third demand is in claim/specs/Demand.antt.
-pub mod calls; // one function over all eleven calls

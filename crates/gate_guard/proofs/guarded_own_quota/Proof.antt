@@ -1,0 +1,41 @@
+-- `gate_guard::guarded_own_quota` meets its contract. Assumes nothing.
+use denote.Ref.{now}
+use Rattle.rules.specs.Refusals.{answered}
+use Rattle.quota.specs.Calls.{ownQuotaRefusal, ownQuotaAfter}
+use Rattle.gate_guard.proofs.Guarded.{on-register-refused, on-register-called}
+use borrow.Author.Needs.{needs}
+use Rattle.gate_guard.proofs.guarded_own_quota.Statement.{statement}
+use Rattle.gate_guard.proofs.guarded_own_quota.Tie as tie
+
+book-sound-requires : tie.Need-book-sound-requires
+book-sound-requires c κs = search needs
+
+refused-by-requires : tie.Need-refused-by-requires
+refused-by-requires c κs = search needs
+
+same-length : tie.Need-same-length
+same-length c = search needs
+
+returns : tie.Need-returns
+returns c = on-register-refused (now (c .before .before .before .before .before .before .before .args .register)) (now (c .before .before .before .before .before .before .before .args .book)) (now (c .before .before .before .before .before .before .before .args .places)) (c .before .before .book-sound .result) (c .before .before .book-sound .ensures) (answered (ownQuotaRefusal (now (c .before .before .before .before .before .before .before .args .register)) (c .before .before .before .before .before .before .before .args .group) (c .before .before .before .before .before .before .before .args .quota))) (ownQuotaAfter (now (c .before .before .before .before .before .before .before .args .register)) (c .before .before .before .before .before .before .before .args .group) (c .before .before .before .before .before .before .before .args .quota)) _ (c .before .if1 .taken) (c .refused-by .ensures)
+
+own-quota-requires : tie.Need-own-quota-requires
+own-quota-requires c κs = search needs
+
+same-length-2 : tie.Need-same-length-2
+same-length-2 c = search needs
+
+returns-2 : tie.Need-returns-2
+returns-2 c = on-register-called (now (c .before .before .before .before .before .before .before .before .before .before .args .register)) (now (c .before .before .before .before .before .before .before .before .before .before .args .book)) (now (c .before .before .before .before .before .before .before .before .before .before .args .places)) (c .before .before .before .before .before .book-sound .result) (c .before .before .before .before .before .book-sound .ensures) (answered (ownQuotaRefusal (now (c .before .before .before .before .before .before .before .before .before .before .args .register)) (c .before .before .before .before .before .before .before .before .before .before .args .group) (c .before .before .before .before .before .before .before .before .before .before .args .quota))) (ownQuotaAfter (now (c .before .before .before .before .before .before .before .before .before .before .args .register)) (c .before .before .before .before .before .before .before .before .before .before .args .group) (c .before .before .before .before .before .before .before .before .before .before .args .quota)) _ _ (c .before .before .before .before .if1 .left) (c .before .before .own-quota .ensures .0) (c .before .before .own-quota .ensures .1)
+
+pub guarded-own-quota-spec : {M : Type 1} → statement M
+guarded-own-quota-spec =
+    tie.close
+    (tie.spec
+    book-sound-requires
+    refused-by-requires
+    same-length
+    returns
+    own-quota-requires
+    same-length-2
+    returns-2)

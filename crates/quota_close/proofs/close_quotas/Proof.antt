@@ -1,0 +1,39 @@
+-- `quota_close::close_quotas` meets its contract. Assumes nothing.
+use denote.Ref.{now}
+use Rattle.quota_close.proofs.Closing.{close-unsound, close-sound}
+use borrow.Author.Needs.{needs}
+use Rattle.quota_close.proofs.close_quotas.Statement.{statement}
+use Rattle.quota_close.proofs.close_quotas.Tie as tie
+
+register-ok-requires : tie.Need-register-ok-requires
+register-ok-requires c κs = search needs
+
+same-length : tie.Need-same-length
+same-length c = search needs
+
+returns : tie.Need-returns
+returns c = close-unsound (now (c .before .before .before .before .args .register)) (c .before .register-ok .result) (c .before .register-ok .ensures) (c .if1 .taken)
+
+group-count-requires : tie.Need-group-count-requires
+group-count-requires c κs = search needs
+
+close-groups-requires : tie.Need-close-groups-requires
+close-groups-requires c κs = search needs
+
+same-length-2 : tie.Need-same-length-2
+same-length-2 c = search needs
+
+returns-2 : tie.Need-returns-2
+returns-2 c = close-sound (now (c .before .before .before .before .before .before .before .before .before .before .args .register)) _ (c .before .before .before .before .before .before .before .register-ok .result) (c .before .before .before .before .group-count .result) (c .before .before .before .before .before .before .before .register-ok .ensures) (c .before .before .before .before .before .before .if1 .left) (c .before .before .close-groups .ensures) (c .before .before .before .before .group-count .ensures)
+
+pub close-quotas-spec : {M : Type 1} → statement M
+close-quotas-spec =
+    tie.close
+    (tie.spec
+    register-ok-requires
+    same-length
+    returns
+    group-count-requires
+    close-groups-requires
+    same-length-2
+    returns-2)

@@ -1,0 +1,59 @@
+-- `quota_declare::withdraw` meets its contract. Assumes nothing.
+use mathlib.Core.Path.{refl, ap, _∙_}
+use denote.Ref.{now}
+use mathlib.Core.List.{List}
+use Prim.Native.Nat.{ℕ}
+use Rattle.register.specs.Layout.{groupAt, putGroup}
+use Rattle.quota.specs.Groups.{filedGroup}
+use Rattle.quota.specs.Calls.{withdrawRefusal, withdrawAfter}
+use Rattle.quota.proofs.Shape.{refused-step, accepted-step}
+use borrow.Author.Needs.{needs}
+use Rattle.quota_declare.proofs.withdraw.Statement.{statement}
+use Rattle.quota_declare.proofs.withdraw.Tie as tie
+
+refusal-of-withdraw-requires : tie.Need-refusal-of-withdraw-requires
+refusal-of-withdraw-requires c κs = search needs
+
+refused-by-requires : tie.Need-refused-by-requires
+refused-by-requires c κs = search needs
+
+same-length : tie.Need-same-length
+same-length c = search needs
+
+returns : tie.Need-returns
+unfolding withdrawAfter
+returns c = refused-step _ _ (withdrawRefusal (now (c .before .before .before .before .before .args .register)) (c .before .before .before .before .before .args .declarer) (c .before .before .before .before .before .args .group)) 0 (putGroup (now (c .before .before .before .before .before .args .register)) (c .before .before .before .before .before .args .group) (filedGroup (groupAt (now (c .before .before .before .before .before .args .register)) (c .before .before .before .before .before .args .group)))) (now (c .before .before .before .before .before .args .register)) (c .refused-by .ensures) (c .before .before .refusal-of-withdraw .ensures) (c .before .if1 .taken)
+
+group-at-requires : tie.Need-group-at-requires
+group-at-requires c κs = search needs
+
+filed-group-requires : tie.Need-filed-group-requires
+filed-group-requires c κs = search needs
+
+put-group-requires : tie.Need-put-group-requires
+put-group-requires c κs = search needs
+
+accepted-as-requires : tie.Need-accepted-as-requires
+accepted-as-requires c κs = search needs
+
+same-length-2 : tie.Need-same-length-2
+same-length-2 c = search needs
+
+returns-2 : tie.Need-returns-2
+unfolding withdrawAfter
+returns-2 c = accepted-step _ _ (withdrawRefusal (now (c .before .before .before .before .before .before .before .before .before .before .before .before .args .register)) (c .before .before .before .before .before .before .before .before .before .before .before .before .args .declarer) (c .before .before .before .before .before .before .before .before .before .before .before .before .args .group)) 0 _ (putGroup (now (c .before .before .before .before .before .before .before .before .before .before .before .before .args .register)) (c .before .before .before .before .before .before .before .before .before .before .before .before .args .group) (filedGroup (groupAt (now (c .before .before .before .before .before .before .before .before .before .before .before .before .args .register)) (c .before .before .before .before .before .before .before .before .before .before .before .before .args .group)))) (now (c .before .before .before .before .before .before .before .before .before .before .before .before .args .register)) (c .accepted-as .ensures) (c .before .before .before .before .before .before .before .before .before .refusal-of-withdraw .ensures) (c .before .before .before .before .before .before .before .before .if1 .left) (c .before .before .before .put-group .ensures ∙ ap (putGroup (now (c .before .before .before .before .before .before .before .before .before .before .before .before .args .register)) (c .before .before .before .before .before .before .before .before .before .before .before .before .args .group)) (c .before .before .before .before .filed-group .ensures ∙ ap (λ z. filedGroup z) (c .before .before .before .before .before .before .group-at .ensures)))
+
+pub withdraw-spec : {M : Type 1} → statement M
+withdraw-spec =
+    tie.close
+    (tie.spec
+    refusal-of-withdraw-requires
+    refused-by-requires
+    same-length
+    returns
+    group-at-requires
+    filed-group-requires
+    put-group-requires
+    accepted-as-requires
+    same-length-2
+    returns-2)

@@ -1,3 +1,0 @@
-// The refusals of calls 1 to 7, over what the call reads ("Refusal list"): rules/specs/Lists.antt has the lists. No state. Those of calls
-// 8 to 10 are in the crate `orderreasons`.
-pub mod declaring; // the refusals of calls 1 to 7, over what each reads

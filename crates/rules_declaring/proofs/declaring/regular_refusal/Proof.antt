@@ -1,0 +1,47 @@
+-- `rules_declaring::declaring::regular_refusal` meets its contract. Assumes nothing.
+use Rattle.rules.specs.Lists.{regularRules}
+use borrow.Author.Needs.{needs}
+use Rattle.rules_declaring.proofs.declaring.regular_refusal.Statement.{statement}
+use Rattle.rules_declaring.proofs.declaring.regular_refusal.Tie as tie
+
+quota-due-requires : tie.Need-quota-due-requires
+quota-due-requires c κs = search needs
+
+first-requires : tie.Need-first-requires
+first-requires c κs = search needs
+
+first-requires-2 : tie.Need-first-requires-2
+first-requires-2 c κs = search needs
+
+first-requires-3 : tie.Need-first-requires-3
+first-requires-3 c κs = search needs
+
+is-foreign-requires : tie.Need-is-foreign-requires
+is-foreign-requires c κs = search needs
+
+first-requires-4 : tie.Need-first-requires-4
+first-requires-4 c κs = search needs
+
+first-requires-5 : tie.Need-first-requires-5
+first-requires-5 c κs = search needs
+
+first-requires-6 : tie.Need-first-requires-6
+first-requires-6 c κs = search needs
+
+returns : tie.Need-returns
+unfolding regularRules
+returns c = rw (c .first6 .ensures, c .before .before .before .first5 .ensures, c .before .before .before .before .before .first4 .ensures, c .before .before .before .before .before .before .is-foreign .ensures, c .before .before .before .before .before .before .before .first3 .ensures, c .before .before .before .before .before .before .before .before .before .before .first2 .ensures, c .before .before .before .before .before .before .before .before .before .before .before .before .before .first .ensures, c .before .before .before .before .before .before .before .before .before .before .before .before .before .before .before .before .quota-due .ensures)
+
+pub regular-refusal-spec : {M : Type 1} → statement M
+regular-refusal-spec =
+    tie.close
+    (tie.spec
+    quota-due-requires
+    first-requires
+    first-requires-2
+    first-requires-3
+    is-foreign-requires
+    first-requires-4
+    first-requires-5
+    first-requires-6
+    returns)
