@@ -34,6 +34,7 @@ pub record Ruled (r : Row) : Type 0 where
   pub money : r .money .«open» .0 + r .money .bought .0 + r .money .sold .0 ≤ topMoney
   pub net : r .net .0 ≤ topMoney
   pub below : r .below ≡ true → 1 ≤ r .net .0
+  pub signs : record { below = r .below; size = r .net } ≡ signedNet (r .money)
 
 pub ruled : (r : Row) → rowKept r ≡ true → Ruled r
 unfolding rowKept rowObeys moneyFits
@@ -57,4 +58,5 @@ ruled r h =
       money = most;
       net = omega (arith, net-small (r .money) most);
       below = λ b. omega (arith, below-sized (r .money) (sym sign ∙ b));
+      signs = rw (sign, size);
     }

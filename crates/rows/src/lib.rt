@@ -42,6 +42,12 @@ pub struct Row {
     pub net: Mils,
 }
 
+// The room left to a group: own quota − net. Not given where the maximum is none.
+pub struct Room {
+    pub given: bool,
+    pub left: Net,
+}
+
 // A row read: the refusal, or 0, and the row, or one of zeros.
 pub struct RowRead {
     pub refusal: u64,
