@@ -20,31 +20,31 @@ use Rattle.listing.specs.declared.lines.Line.{Line}
 -- ---- written
 
 -- the buffer p is d with the text a, of m bytes, put at its place
-record Grown (d : List ℕ) (at : ℕ) (p a : List ℕ) (m : ℕ) : Type 0 where
-  is : p ≡ paste d at a m
-  long : length a ≡ m
+pub record Grown (d : List ℕ) (at : ℕ) (p a : List ℕ) (m : ℕ) : Type 0 where
+  pub is : p ≡ paste d at a m
+  pub long : length a ≡ m
 
 module _ (d : List ℕ) (at : ℕ) (p a : List ℕ) (m w : ℕ) (g : Grown d at p a m) (h : at + (m + w) ≤ length d) where
-  room : at + m + w ≤ length p
+  pub room : at + m + w ≤ length p
   room =
       let e : length p ≡ length d = ap length (g .is) ∙ length-paste d at a m (omega arith) (omega (arith, g .long)) in
       omega arith
 
   -- one text of w bytes more
-  more : (q b : List ℕ) → length b ≡ w → q ≡ paste p (at + m) b w → Grown d at q (a ++ b) (m + w)
+  pub more : (q b : List ℕ) → length b ≡ w → q ≡ paste p (at + m) b w → Grown d at q (a ++ b) (m + w)
   more q b lb e =
       record {
         is = e ∙ ap (λ (x : List ℕ). paste x (at + m) b w) (g .is) ∙ chain d a b at m w h (g .long);
         long = length-append a b ∙ ap (λ (k : ℕ). k + length b) (g .long) ∙ ap (λ (k : ℕ). m + k) lb;
       }
 
-  plain-more : (q : List ℕ) (n : ℕ) → fits w n ≡ true → q ≡ plainPut p (at + m) w n → Grown d at q (a ++ column w n) (m + w)
+  pub plain-more : (q : List ℕ) (n : ℕ) → fits w n ≡ true → q ≡ plainPut p (at + m) w n → Grown d at q (a ++ column w n) (m + w)
   plain-more q n f e = more q (column w n) (length-marked 32 w n) (e ∙ plain-put p (at + m) w n room f)
 
-  optional-more : (q : List ℕ) (present : Bool) (n : ℕ) → optionalFits w present n ≡ true → q ≡ optionalPut p (at + m) w present n → Grown d at q (a ++ optionalText w present n) (m + w)
+  pub optional-more : (q : List ℕ) (present : Bool) (n : ℕ) → optionalFits w present n ≡ true → q ≡ optionalPut p (at + m) w present n → Grown d at q (a ++ optionalText w present n) (m + w)
   optional-more q present n f e = more q (optionalText w present n) (length-optional w present n) (e ∙ optional-put p (at + m) w present n room f)
 
-  signed-more : (q : List ℕ) (below : Bool) (n : ℕ) → signedFits w below n ≡ true → q ≡ signedPut p (at + m) w below n → Grown d at q (a ++ signedText w below n) (m + w)
+  pub signed-more : (q : List ℕ) (below : Bool) (n : ℕ) → signedFits w below n ≡ true → q ≡ signedPut p (at + m) w below n → Grown d at q (a ++ signedText w below n) (m + w)
   signed-more q below n f e = more q (signedText w below n) (length-signed w below n) (e ∙ signed-put p (at + m) w below n room f)
 
 pub row-written : (d : List ℕ) (at : ℕ) (r : Row) (d₁ d₂ d₄ d₅ d₆ d₇ d₈ d₉ : List ℕ) → at + rowBytes ≤ length d → rowKept r ≡ true

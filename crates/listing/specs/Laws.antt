@@ -83,7 +83,7 @@ listing-read rs h =
 
 -- ---- no other text is accepted
 
-length-rows : (n : ℕ) (t : List ℕ) → length (rowsFrom n t) ≡ n
+pub length-rows : (n : ℕ) (t : List ℕ) → length (rowsFrom n t) ≡ n
 unfolding rowsFrom
 length-rows zero t = refl
 length-rows (suc n) t = ap suc (length-rows n (drop rowBytes t))

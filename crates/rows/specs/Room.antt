@@ -74,7 +74,7 @@ unfolding roomOf
 room-is r own k e =
     let s = ruled r k in
     let known : signed (roomUnder own (r .below) (r .net)) ≡ pos ((milsOf own) .0) -ℤ signed (record { below = r .below; size = r .net }) =
-      under-is own (r .below) (r .net) (s .net) (s .below) in
+    under-is own (r .below) (r .net) (s .net) (s .below) in
     let net : signed (record { below = r .below; size = r .net }) ≡ netOf (r .money) = ap signed (s .signs) ∙ sym (net-is (r .money)) in
     (rw e, rw e (known ∙ ap (λ z. pos ((milsOf own) .0) -ℤ z) net))
 

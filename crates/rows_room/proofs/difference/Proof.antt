@@ -1,20 +1,16 @@
+-- `rows_room::difference` meets its contract. Assumes nothing.
 use native.Mathlib.Omega.{arith}
 use Rattle.rows_room.proofs.Steps.{difference-below, difference-above}
 use borrow.Author.Needs.{needs}
 use Rattle.rows_room.proofs.difference.Statement.{statement}
 use Rattle.rows_room.proofs.difference.Tie as tie
-use Rattle.rows_room.proofs.difference.Reads as reads
-use Rattle.rows_room.proofs.difference.Lts as lts
 
--- src/lib.rt:22:24
 sub-t4 : tie.Need-sub-t4
 sub-t4 c = search needs
 
--- src/lib.rt:20:9
 returns : tie.Need-returns
 returns c = difference-below (c .before .args .a) (c .before .args .b) (omega arith)
 
--- src/lib.rt:16:1
 returns-2 : tie.Need-returns-2
 returns-2 c = difference-above (c .before .args .a) (c .before .args .b) (omega arith)
 

@@ -1,0 +1,26 @@
+-- `listing_rooms::put_refused` meets its contract. Assumes nothing.
+use denote.Ref.{now}
+use Rattle.listing_rooms.proofs.Lined.{refused-written}
+use borrow.Author.Needs.{needs}
+use Rattle.listing_rooms.proofs.put_refused.Statement.{statement}
+use Rattle.listing_rooms.proofs.put_refused.Tie as tie
+
+put-plain-requires : tie.Need-put-plain-requires
+put-plain-requires c κs = search needs
+
+slice-aggregate-put-text : tie.Need-slice-aggregate-put-text
+slice-aggregate-put-text c = search needs
+
+put-text-requires : tie.Need-put-text-requires
+put-text-requires c κs = search needs
+
+same-length : tie.Need-same-length
+same-length c = search needs
+
+returns : tie.Need-returns
+returns c = refused-written (now (c .before .before .before .before .before .before .before .before .before .before .args .out)) (c .before .before .before .before .before .before .before .put-plain .last .0) (c .before .before .put-text .last .0) (c .before .before .before .before .before .before .before .before .before .before .pre) (c .before .before .before .before .before .before .before .put-plain .ensures) (c .before .before .put-text .ensures)
+
+pub put-refused-spec : {M : Type 1} → statement M
+put-refused-spec =
+    tie.close
+    (tie.spec put-plain-requires slice-aggregate-put-text put-text-requires same-length returns)

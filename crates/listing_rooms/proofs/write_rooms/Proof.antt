@@ -1,0 +1,50 @@
+-- `listing_rooms::write_rooms` meets its contract. Assumes nothing.
+use denote.Ref.{now}
+use native.Mathlib.Omega.{arith}
+use mathlib.Core.Path.{sym, _∙_}
+use Rattle.listing.specs.Rooms.{rows-few}
+use Rattle.listing_rooms.proofs.Lined.{listing-known, count-rows, put-short, put-refused, put-listed}
+use borrow.Author.Needs.{needs}
+use Rattle.listing_rooms.proofs.write_rooms.Statement.{statement}
+use Rattle.listing_rooms.proofs.write_rooms.Tie as tie
+
+returns : tie.Need-returns
+returns c = put-short (now (c .before .before .before .args .text)) (now (c .before .before .before .args .out)) (omega arith)
+
+refusal-of-text-requires : tie.Need-refusal-of-text-requires
+refusal-of-text-requires c κs = search needs
+
+put-refused-requires : tie.Need-put-refused-requires
+put-refused-requires c κs = search needs
+
+same-length : tie.Need-same-length
+same-length c = search needs
+
+returns-2 : tie.Need-returns-2
+returns-2 c = put-refused (now (c .before .before .before .before .before .before .before .before .before .args .text)) (now (c .before .before .before .before .before .before .before .before .before .args .out)) (c .before .before .before .before .before .refusal-of-text .result) (c .before .before .before .before .before .refusal-of-text .ensures) (omega arith) _ (c .before .before .before .before .if2 .taken) (c .before .before .put-refused .ensures)
+
+put-rooms-requires : tie.Need-put-rooms-requires
+put-rooms-requires c κs = (listing-known (now (c .before .before .before .before .before .before .args .text)) (sym (c .before .before .refusal-of-text .ensures) ∙ c .before .if2 .left), (sym (count-rows (now (c .before .before .before .before .before .before .args .text))), omega (arith, count-rows (now (c .before .before .before .before .before .before .args .text)), rows-few (now (c .before .before .before .before .before .before .args .text)) (listing-known (now (c .before .before .before .before .before .before .args .text)) (sym (c .before .before .refusal-of-text .ensures) ∙ c .before .if2 .left)))))
+
+mul-result : tie.Need-mul-result
+mul-result c = search needs
+
+same-length-2 : tie.Need-same-length-2
+same-length-2 c = search needs
+
+returns-3 : tie.Need-returns-3
+returns-3 c = put-listed (now (c .before .before .before .before .before .before .before .before .before .args .text)) (now (c .before .before .before .before .before .before .before .before .before .args .out)) (c .before .before .before .before .before .refusal-of-text .result) (c .before .before .before .before .before .refusal-of-text .ensures) (omega arith) _ (c .before .before .before .before .if2 .left) (c .before .before .put-rooms .ensures)
+
+pub write-rooms-spec : {M : Type 1} → statement M
+write-rooms-spec =
+    tie.close
+    (tie.spec
+    returns
+    refusal-of-text-requires
+    put-refused-requires
+    same-length
+    returns-2
+    put-rooms-requires
+    mul-result
+    same-length-2
+    returns-3)
