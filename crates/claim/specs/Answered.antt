@@ -300,7 +300,15 @@ pub record Answered : Type 0 where
   pub book-spoilt : AllAre 1 register (set book 1 5)
 
 pub answered : Answered
-unfolding expected registerAsked bookAsked placesAsked elevenAsked step run openRefusal openRegister openBook bookSound isSound groupsEnrolled hostOk namedOk bookOk placeOk recordOk registerOk allBelow enrolRefusal enrolAnswer enrolAfter attachRefusal attachAfter detachRefusal detachAfter regularRefusal regularAfter raiseRefusal raiseAfter withdrawRefusal withdrawAfter ownQuotaRefusal ownQuotaAfter closedAt closedBelow closeRefusal closeAfter declaredGroup raisedGroup filedGroup ownGroup closedGroup figuresOf groupOf wordsOf place tab putWords recordAt putRecord addGroup isTaken words.run splice standingOf placeOf sumOf declaredFigures withdrawnFigures placeIn pairs sumOver when putAccepted moneyAt putMoney placeAt putPlace putOpen moneyFits bookedOrder bookedFill bookedCancel orderRefusal orderAnswer orderBook orderPlaces fillRefusal fillBook fillPlaces cancelRefusal cancelBook cancelPlaces closedBook milsOf isBuy priceRule worseFill netOf shanghai stops quotaDue closedQuota enrolRules attachRules detachRules regularRules raiseRules withdrawRules ownQuotaRules orderRules fillRules cancelRules find
+unfolding expected registerAsked bookAsked placesAsked elevenAsked step run openRefusal openRegister openBook bookSound isSound
+    groupsEnrolled hostOk namedOk bookOk placeOk recordOk registerOk allBelow enrolRefusal enrolAnswer enrolAfter attachRefusal attachAfter
+    detachRefusal detachAfter regularRefusal regularAfter raiseRefusal raiseAfter withdrawRefusal withdrawAfter ownQuotaRefusal
+    ownQuotaAfter closedAt closedBelow closeRefusal closeAfter declaredGroup raisedGroup filedGroup ownGroup closedGroup figuresOf groupOf
+    wordsOf place tab putWords recordAt putRecord addGroup isTaken words.run splice standingOf placeOf sumOf declaredFigures
+    withdrawnFigures placeIn pairs sumOver when putAccepted moneyAt putMoney placeAt putPlace putOpen moneyFits bookedOrder bookedFill
+    bookedCancel orderRefusal orderAnswer orderBook orderPlaces fillRefusal fillBook fillPlaces cancelRefusal cancelBook cancelPlaces
+    closedBook milsOf isBuy priceRule worseFill netOf shanghai stops quotaDue closedQuota enrolRules attachRules detachRules regularRules
+    raiseRules withdrawRules ownQuotaRules orderRules fillRules cancelRules find
 answered = record {
   openings = (refl, refl, refl);
   no-openings = (refl, refl, refl, refl, refl, refl);
