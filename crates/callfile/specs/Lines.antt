@@ -1,5 +1,5 @@
--- "A call line is the code, 1 to 11, in 2 columns, four fields of 9, line feed; unused fields are 0. Any other line is malformed." What is written for
--- a call and for an answer, what is read from a line (given without its line feed), and every byte of a buffer after a put.
+-- "A call line is the code, 1 to 11, in 2 columns, four fields of 9, line feed; unused fields are 0. Any other line is malformed." What is written
+-- for a call and for an answer, what is read from a line (given without its line feed), and every byte of a buffer after a put. (Lines and columns)
 use Prim.Native.Nat.{ℕ, _+_}
 use mathlib.Core.Bool.{Bool, true, false, _&&_, _||_}
 use mathlib.Core.List.{List, [], _∷_, _++_}
@@ -18,7 +18,7 @@ use Rattle.callfile.specs.declared.reading.Line.{Line}
 abbrev pub coded : ℕ → ℕ → ℕ → ℕ → ℕ → Words
 coded code first second third fourth = record { code = code; first = first; second = second; third = third; fourth = fourth }
 
--- "Codes, with fields": 1 enrol group (code, class) to 11 close
+-- "Codes, with fields": 1 enrol group (code, class) to 11 close (The eleven calls)
 unfoldable pub wordsOf : Call → Words
 wordsOf (Enrol code class) = coded 1 code class 0 0
 wordsOf (Attach unit group) = coded 2 unit group 0 0
@@ -34,22 +34,22 @@ wordsOf Close = coded 11 0 0 0 0
 
 -- ---- what is written
 
--- the bytes of a call line: "the code .. in 2 columns, four fields of 9"; and with its line feed
+-- the bytes of a call line: "the code .. in 2 columns, four fields of 9"; and with its line feed (Lines and columns)
 abbrev pub lineBytes : ℕ
 lineBytes = 38
 
 abbrev pub callBytes : ℕ
 callBytes = 39
 
--- "the code .. in 2 columns, four fields of 9"
+-- "the code .. in 2 columns, four fields of 9" (Lines and columns)
 unfoldable pub lineText : Words → List ℕ
 lineText w = column 2 (w .code) ++ column 9 (w .first) ++ column 9 (w .second) ++ column 9 (w .third) ++ column 9 (w .fourth)
 
--- "line feed"
+-- "line feed" (Lines and columns)
 unfoldable pub callText : Call → List ℕ
 callText call = lineText (wordsOf call) ++ (10 ∷ [])
 
--- "the refusal number or 0 in 3 columns and the group or order number given (else 0) in 6, line feed"
+-- "the refusal number or 0 in 3 columns and the group or order number given (else 0) in 6, line feed" (Lines and columns)
 unfoldable pub answerText : Answer → List ℕ
 answerText answer = column 3 (answer .refusal) ++ column 6 (answer .number) ++ (10 ∷ [])
 
@@ -69,11 +69,11 @@ answerFits answer = fits 3 (answer .refusal) && fits 6 (answer .number)
 unfoldable pub fields : ℕ → ℕ
 fields code = getD (0 ∷ 2 ∷ 2 ∷ 1 ∷ 4 ∷ 4 ∷ 2 ∷ 2 ∷ 4 ∷ 3 ∷ 1 ∷ 0 ∷ []) code 0
 
--- field i, counted from 1, of a call with n fields: "unused fields are 0"
+-- field i, counted from 1, of a call with n fields: "unused fields are 0" (Lines and columns)
 abbrev pub usedOrZero : ℕ → ℕ → ℕ → Bool
 usedOrZero n i x = leb i n || eqb x 0
 
--- "the code, 1 to 11"
+-- "the code, 1 to 11" (Lines and columns)
 unfoldable pub isCall : Words → Bool
 isCall w =
     within 1 11 (w .code)
@@ -93,7 +93,7 @@ lineFormed t = eqb (length t) lineBytes && (columnsFormed t && isCall (lineOf t)
 abbrev pub callFrom : Words → Call
 callFrom w = callOf (w .code) (w .first) (w .second) (w .third) (w .fourth)
 
--- "Any other line is malformed."
+-- "Any other line is malformed." (Lines and columns)
 abbrev pub malformed : Line
 malformed = record { formed = false; call = callOf 0 0 0 0 0 }
 

@@ -25,7 +25,7 @@ pub fn coded(code: u64, first: u64, second: u64, third: u64, fourth: u64) -> Wor
     }
 }
 
-// "Codes, with fields", in the paper's order.
+// "Codes, with fields", in the paper's order. (The eleven calls)
 pub fn words_of(call: Call) -> Words
     ensures { λ r. ⌜ r ≡ wordsOf call ⌝ }
 {
@@ -81,7 +81,7 @@ fn used_or_zero(n: u64, i: u64, x: u64) -> bool
     (i <= n) | (x == 0)
 }
 
-// "the code, 1 to 11, .. unused fields are 0"
+// "the code, 1 to 11, .. unused fields are 0" (Lines and columns)
 pub fn is_call(w: Words) -> bool
     ensures { λ r. ⌜ r ≡ isCall w ⌝ }
 {

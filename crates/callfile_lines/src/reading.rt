@@ -19,7 +19,7 @@ fn malformed() -> Line
 }
 
 // "A call line is the code, 1 to 11, in 2 columns, four fields of 9, line feed; unused fields are 0. Any other line is malformed." The line is given
-// without its line feed.
+// without its line feed. (Lines and columns)
 pub fn read_line(line: &[u8]) -> Line
     ensures { λ r. ⌜ r ≡ readLine (now (line .entry)) ⌝ }
 {

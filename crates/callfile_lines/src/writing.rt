@@ -53,7 +53,7 @@ fn answer_fits(answer: Answer) -> bool
 }
 
 // "the refusal number or 0 in 3 columns and the group or order number given (else 0) in 6, line feed"; nothing where it does not fit. It
-// has no number to refuse by: `day` has ten bytes of room for it, and has held the answer to its columns.
+// has no number to refuse by: `day` has ten bytes of room for it, and has held the answer to its columns. (Lines and columns)
 pub fn put_answer(out: &mut [u8], at: usize, answer: Answer)
     ensures { λ _. ⌜ now (out .exit) ≡ answerPut (now (out .entry)) at answer ⌝ }
 {

@@ -129,7 +129,7 @@ Opens r b p n = openRefusal (memory (replicate r 7) (replicate b 7) (replicate p
 -- ---- the table
 
 pub record Answered : Type 0 where
-  -- "The host lends N order places, 1 to 65,536", four words each
+  -- "The host lends N order places, 1 to 65,536", four words each (Money and names)
   pub openings : Opens registerLength bookLength 0 1 × Opens registerLength bookLength 4 0 × Opens registerLength bookLength 8_192 0
   -- not so many words, or a register or book of another length
   pub no-openings : Opens registerLength bookLength 3 1 × Opens registerLength bookLength 5 1 × Opens (registerLength - 1) bookLength 16 1 × Opens (registerLength + 1) bookLength 16 1 × Opens registerLength (bookLength - 1) 16 1 × Opens registerLength (bookLength + 1) 16 1
@@ -139,7 +139,7 @@ pub record Answered : Type 0 where
   pub sound : InRegister (
       wordOf 0 atCode holds 1 ⇒ 2
       ∷ [])
-  -- "institution code .. 0 to 99,999"; "control class 1 to 4", of either group
+  -- "institution code .. 0 to 99,999"; "control class 1 to 4", of either group (Money and names)
   pub register-names : InRegister (
       wordOf 0 atCode holds 0 ⇒ 2
       ∷ wordOf 0 atCode holds 99_999 ⇒ 2
@@ -155,7 +155,7 @@ pub record Answered : Type 0 where
       ∷ wordOf 1 atClass holds 5 ⇒ 1
       ∷ wordOf 2 atClass holds 5 ⇒ 2
       ∷ [])
-  -- "quota 0 to 9,999,999 millions"; 10,000,000 is the word for none
+  -- "quota 0 to 9,999,999 millions"; 10,000,000 is the word for none (Money and names)
   pub register-limits : InRegister (
       wordOf 1 atMaximum holds 9_999_999 ⇒ 2
       ∷ wordOf 1 atMaximum holds 10_000_000 ⇒ 2
@@ -166,7 +166,7 @@ pub record Answered : Type 0 where
       ∷ wordOf 1 atFigure holds 9_999_999 ⇒ 2
       ∷ wordOf 1 atFigure holds 10_000_000 ⇒ 1
       ∷ [])
-  -- "declarer 0 to 99,999": as a holder, as one that has filed (100,000 more), and 200,000 for nobody, who has no figure
+  -- "declarer 0 to 99,999": as a holder, as one that has filed (100,000 more), and 200,000 for nobody, who has no figure (Money and names)
   pub register-holder : InRegister (
       wordOf 1 atHolder holds 0 ⇒ 2
       ∷ wordOf 1 atHolder holds 99_999 ⇒ 2
@@ -175,7 +175,7 @@ pub record Answered : Type 0 where
       ∷ wordOf 0 atHolder holds 200_000 ⇒ 2
       ∷ wordOf 0 atHolder holds 200_001 ⇒ 1
       ∷ [])
-  -- "at most eight declarers", each in its range, with a quota in its range
+  -- "at most eight declarers", each in its range, with a quota in its range (Quotas)
   pub register-figures : InRegister (
       wordOf 0 atStanding holds 8 ⇒ 2
       ∷ wordOf 0 atStanding holds 9 ⇒ 1
@@ -188,7 +188,7 @@ pub record Answered : Type 0 where
       ∷ wordOf 0 (atQuotas + 7) holds 9_999_999 ⇒ 2
       ∷ wordOf 0 (atQuotas + 7) holds 10_000_000 ⇒ 1
       ∷ [])
-  -- "at most 64 groups and 256 attached units"; "trading unit .. 0 to 99,999"; its group is one
+  -- "at most 64 groups and 256 attached units"; "trading unit .. 0 to 99,999"; its group is one (Money and names)
   pub register-units : InRegister (
       0 holds 65 ⇒ 1
       ∷ 1 holds 257 ⇒ 1
@@ -199,7 +199,7 @@ pub record Answered : Type 0 where
       ∷ groupOfUnit 0 holds 64 ⇒ 1
       ∷ unitOf 1 holds 100_000 ⇒ 2
       ∷ [])
-  -- "N .. other than at opening"; "orders accepted 0 to N"
+  -- "N .. other than at opening"; "orders accepted 0 to N" (Refusal list; Money and names)
   pub book-numbers : InBook (cancel 0) (
       0 holds 0 ⇒ 1
       ∷ 0 holds 3 ⇒ 1
@@ -209,7 +209,7 @@ pub record Answered : Type 0 where
       ∷ 1 holds 4 ⇒ 2
       ∷ 1 holds 5 ⇒ 1
       ∷ [])
-  -- "L is 6,553,599,344,640,000,000 mils: no group's total passes it"
+  -- "L is 6,553,599,344,640,000,000 mils: no group's total passes it" (Money and names)
   pub book-totals : InBook (cancel 0) (
       totalOf 0 0 holds 6_553_599_344_640_000_000 ⇒ 2
       ∷ totalOf 0 0 holds 6_553_599_344_640_000_001 ⇒ 1
@@ -224,7 +224,8 @@ pub record Answered : Type 0 where
       ∷ totalOf 1 2 holds 6_553_599_344_640_000_000 ⇒ 2
       ∷ totalOf 1 2 holds 6_553_599_344_640_000_001 ⇒ 1
       ∷ [])
-  -- "or one in the place of the order named by the call, if that number was given since the close": group, kind, price, open quantity of order 1
+  -- "or one in the place of the order named by the call, if that number was given since the close":
+  -- group, kind, price, open quantity of order 1 (Refusal list)
   pub place-named : InPlaces (fill 1 500 1) (
       placeWord 1 0 holds 0 ⇒ 0
       ∷ placeWord 1 0 holds 64 ⇒ 1
@@ -268,7 +269,8 @@ pub record Answered : Type 0 where
       placeWord 3 1 holds 9 ⇒ 18
       ∷ placeWord 3 0 holds 64 ⇒ 18
       ∷ [])
-  -- "in a call that no other number refuses, a group's total .. would leave 0 to L": 500 off the open buys, 5,000 off them; 20 and 19 before it
+  -- "in a call that no other number refuses, a group's total .. would leave 0 to L": 500 off the open buys, 5,000 off them;
+  -- 20 and 19 before it (Refusal list)
   pub late-fill : InBook (fill 1 500 1) (
       totalOf 0 0 holds 500 ⇒ 0
       ∷ totalOf 0 0 holds 499 ⇒ 1
@@ -283,7 +285,7 @@ pub record Answered : Type 0 where
   pub late-above : InBook (fill 1 500 11) (
       totalOf 0 0 holds 499 ⇒ 19
       ∷ [])
-  -- "or its open + bought + sold": 5,000 open and 500 more sold come to L; one more
+  -- "or its open + bought + sold": 5,000 open and 500 more sold come to L; one more (Refusal list)
   pub late-sum : InBook (fill 2 500 1) (
       totalOf 0 2 holds 6_553_599_344_639_994_500 ⇒ 0
       ∷ totalOf 0 2 holds 6_553_599_344_639_994_501 ⇒ 1
@@ -298,7 +300,15 @@ pub record Answered : Type 0 where
   pub book-spoilt : AllAre 1 register (set book 1 5)
 
 pub answered : Answered
-unfolding expected registerAsked bookAsked placesAsked elevenAsked step run openRefusal openRegister openBook bookSound isSound groupsEnrolled hostOk namedOk bookOk placeOk recordOk registerOk allBelow enrolRefusal enrolAnswer enrolAfter attachRefusal attachAfter detachRefusal detachAfter regularRefusal regularAfter raiseRefusal raiseAfter withdrawRefusal withdrawAfter ownQuotaRefusal ownQuotaAfter closedAt closedBelow closeRefusal closeAfter declaredGroup raisedGroup filedGroup ownGroup closedGroup figuresOf groupOf wordsOf place tab putWords recordAt putRecord addGroup isTaken words.run splice standingOf placeOf sumOf declaredFigures withdrawnFigures placeIn pairs sumOver when putAccepted moneyAt putMoney placeAt putPlace putOpen moneyFits bookedOrder bookedFill bookedCancel orderRefusal orderAnswer orderBook orderPlaces fillRefusal fillBook fillPlaces cancelRefusal cancelBook cancelPlaces closedBook milsOf isBuy priceRule worseFill netOf shanghai stops quotaDue closedQuota enrolRules attachRules detachRules regularRules raiseRules withdrawRules ownQuotaRules orderRules fillRules cancelRules find
+unfolding expected registerAsked bookAsked placesAsked elevenAsked step run openRefusal openRegister openBook bookSound isSound
+    groupsEnrolled hostOk namedOk bookOk placeOk recordOk registerOk allBelow enrolRefusal enrolAnswer enrolAfter attachRefusal attachAfter
+    detachRefusal detachAfter regularRefusal regularAfter raiseRefusal raiseAfter withdrawRefusal withdrawAfter ownQuotaRefusal
+    ownQuotaAfter closedAt closedBelow closeRefusal closeAfter declaredGroup raisedGroup filedGroup ownGroup closedGroup figuresOf groupOf
+    wordsOf place tab putWords recordAt putRecord addGroup isTaken words.run splice standingOf placeOf sumOf declaredFigures
+    withdrawnFigures placeIn pairs sumOver when putAccepted moneyAt putMoney placeAt putPlace putOpen moneyFits bookedOrder bookedFill
+    bookedCancel orderRefusal orderAnswer orderBook orderPlaces fillRefusal fillBook fillPlaces cancelRefusal cancelBook cancelPlaces
+    closedBook milsOf isBuy priceRule worseFill netOf shanghai stops quotaDue closedQuota enrolRules attachRules detachRules regularRules
+    raiseRules withdrawRules ownQuotaRules orderRules fillRules cancelRules find
 answered = record {
   openings = (refl, refl, refl);
   no-openings = (refl, refl, refl, refl, refl, refl);

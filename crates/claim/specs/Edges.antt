@@ -96,41 +96,41 @@ lending = morning 5 ++ (Order 20_001 3 (mils 100_000) 10 ∷ [])
 
 abbrev pub edges : List Case
 edges =
-    -- E1: "class 1, base 3: quota 8 passes, 7 gets 8"
+    -- E1: "class 1, base 3: quota 8 passes, 7 gets 8" (Edges to prove)
     Answered (declaring 8) (accepted 0 ∷ accepted 0 ∷ [])
     ∷ Answered (declaring 7) (accepted 0 ∷ refused 8 ∷ [])
-    -- E2: "figures summing to 100,000 give 100,000; to 100,001 give 100,000"
+    -- E2: "figures summing to 100,000 give 100,000; to 100,001 give 100,000" (Edges to prove)
     ∷ Answered (summing 60_000 40_000) (accepted 0 ∷ accepted 0 ∷ accepted 0 ∷ accepted 0 ∷ [])
     ∷ MaximumIs (summing 60_000 40_000) 0 (At (millions 100_000))
     ∷ Answered (summing 60_000 40_001) (accepted 0 ∷ accepted 0 ∷ accepted 0 ∷ accepted 0 ∷ [])
     ∷ MaximumIs (summing 60_000 40_001) 0 (At (millions 100_000))
-    -- E3: "maximum 99,999, emergency 100,000: flag 0 passes, flag 1 gets 13"
+    -- E3: "maximum 99,999, emergency 100,000: flag 0 passes, flag 1 gets 13" (Edges to prove)
     ∷ MaximumIs below 0 (At (millions 99_999))
     ∷ Answered (raising 100_000 0) (accepted 0 ∷ accepted 0 ∷ accepted 0 ∷ accepted 0 ∷ [])
     ∷ Answered (raising 100_000 1) (accepted 0 ∷ accepted 0 ∷ accepted 0 ∷ refused 13 ∷ [])
-    -- E4: "same maximum, emergency 100,001, flag 0: 13"
+    -- E4: "same maximum, emergency 100,001, flag 0: 13" (Edges to prove)
     ∷ Answered (raising 100_001 0) (accepted 0 ∷ accepted 0 ∷ accepted 0 ∷ refused 13 ∷ [])
-    -- E5: "own 5: net 4,999,999,999 lets a buy in, 5,000,000,000 gets 16"
+    -- E5: "own 5: net 4,999,999,999 lets a buy in, 5,000,000,000 gets 16" (Edges to prove)
     ∷ OwnIs bought 0 (At (millions 5))
     ∷ NetIs bought 0 (pos 4_999_999_999)
     ∷ Answered boughtAll (accepted 0 ∷ accepted 0 ∷ accepted 0 ∷ accepted 0 ∷ accepted 0 ∷ accepted 1 ∷ accepted 2 ∷ accepted 3 ∷ [])
     ∷ OwnIs boughtAll 0 (At (millions 5))
     ∷ NetIs boughtAll 0 (pos 5_000_000_000)
     ∷ Answered (boughtAll ++ (Order 20_001 1 (mils 1) 1 ∷ [])) (accepted 0 ∷ accepted 0 ∷ accepted 0 ∷ accepted 0 ∷ accepted 0 ∷ accepted 1 ∷ accepted 2 ∷ accepted 3 ∷ refused 16 ∷ [])
-    -- E6: "own 0: net 0 gets 16, net −1 passes"
+    -- E6: "own 0: net 0 gets 16, net −1 passes" (Edges to prove)
     ∷ OwnIs (morning 0) 0 (At (millions 0))
     ∷ NetIs (morning 0) 0 (pos 0)
     ∷ Answered (morning 0 ++ (Order 20_001 1 (mils 1) 1 ∷ [])) (accepted 0 ∷ accepted 0 ∷ accepted 0 ∷ accepted 0 ∷ accepted 0 ∷ refused 16 ∷ [])
     ∷ OwnIs sold 0 (At (millions 0))
     ∷ NetIs sold 0 (negsuc 0)
     ∷ Answered (sold ++ (Order 20_001 1 (mils 1) 1 ∷ [])) (accepted 0 ∷ accepted 0 ∷ accepted 0 ∷ accepted 0 ∷ accepted 0 ∷ accepted 1 ∷ accepted 0 ∷ accepted 2 ∷ [])
-    -- E7: "own 5, closes bring maximum 4, then 9: own stays 4"
+    -- E7: "own 5, closes bring maximum 4, then 9: own stays 4" (Edges to prove)
     ∷ Answered risen (accepted 0 ∷ accepted 0 ∷ accepted 0 ∷ accepted 0 ∷ accepted 0 ∷ accepted 0 ∷ accepted 0 ∷ accepted 0 ∷ [])
     ∷ MaximumIs lowered 0 (At (millions 4))
     ∷ OwnIs lowered 0 (At (millions 4))
     ∷ MaximumIs risen 0 (At (millions 9))
     ∷ OwnIs risen 0 (At (millions 4))
-    -- E8: "lending 10 units adds 1,000,000 mils"
+    -- E8: "lending 10 units adds 1,000,000 mils" (Edges to prove)
     ∷ MoneyIs (morning 5) 0 (record { «open» = mils 0; bought = mils 0; sold = mils 0 })
     ∷ Answered lending (accepted 0 ∷ accepted 0 ∷ accepted 0 ∷ accepted 0 ∷ accepted 0 ∷ accepted 1 ∷ [])
     ∷ MoneyIs lending 0 (record { «open» = mils 1_000_000; bought = mils 0; sold = mils 0 })

@@ -1,6 +1,6 @@
 -- "Places above the last number given may hold anything and decide no answer": of every memory, sound or not, and over every list of calls.
 -- And which words of the places a call may write: "It writes that place alone; a fill or cancel changes only the open quantity in its order's
--- place; no other call, opening and close included, writes a place." Assumes nothing.
+-- place; no other call, opening and close included, writes a place." Assumes nothing. (How firmly each call is bound; Orders)
 use Prim.{tt}
 use Prim.Native.Nat.{ℕ, zero, suc, _+_, _*_, _-_, _/_, _≤_}
 use mathlib.Core.Path.{_≡_, refl, sym, ap, subst, _∙_}
@@ -283,7 +283,7 @@ module _ (rs bs ps qs : List ℕ) (a : AlikeBelow (acceptedOf bs) ps qs) where
 
 -- ---- the claims hold
 
--- "Places above the last number given may hold anything and decide no answer": one call, in every memory
+-- "Places above the last number given may hold anything and decide no answer": one call, in every memory (How firmly each call is bound)
 pub step-unused : (rule : Rule) (m n : Memory) → SameGiven m n → (c : Call) → Alike (step rule m c) (step rule n c)
 step-unused rule m n s c =
     subst (λ (rs : List ℕ). Alike (step rule m c) (step rule (memory rs (n .book) (n .places)) c)) (s .register)

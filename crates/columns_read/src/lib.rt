@@ -68,7 +68,7 @@ fn run_of_digits(text: &[u8], at: usize, w: usize) -> Plain
     Plain { formed, number }
 }
 
-// "no leading zeros", of n digits from at on.
+// "no leading zeros", of n digits from at on. (Lines and columns)
 fn leads_well(text: &[u8], at: usize, n: usize) -> bool
     requires { ⌜ at + n ≤ length (now text) ⌝ }
     ensures { λ r. ⌜ r ≡ (leb n 1 || not (eqb (getD (now (text .entry)) at 0) 48)) ⌝ }

@@ -1,6 +1,6 @@
 -- What gateday prints for its input: an answer for each line, in order. "Program `gateday` .. reads call lines from standard input, prints for
 -- each the refusal number or 0 in 3 columns and the group or order number given (else 0) in 6, line feed". A text is a list of bytes: 10 is
--- the line feed.
+-- the line feed. (Lines and columns)
 use Prim.Native.Nat.{ℕ, zero, suc, _+_, _-_, _/_, min}
 use mathlib.Core.Path.{_≡_}
 use mathlib.Core.Bool.{Bool, true, false, _&&_}
@@ -17,7 +17,7 @@ use Rattle.claim.specs.Step.{Memory, Stepped, step}
 use Rattle.day.specs.declared.Progress.{Progress}
 use Rattle.callfile.specs.Lines.{readLine, answerText, callBytes}
 
--- a line without its line feed: its call's answer and the memory after it; "A malformed line .. prints 21 with 0 and is skipped"
+-- a line without its line feed: its call's answer and the memory after it; "A malformed line .. prints 21 with 0 and is skipped" (Lines and columns)
 unfoldable pub lineStep : Memory → List ℕ → Stepped
 lineStep m line = pick ((readLine line) .formed) (step shanghai m ((readLine line) .call)) (record { answer = refused MALFORMED; memory = m })
 
@@ -76,7 +76,7 @@ pub record Answered (r : Told) (out : List ℕ) (p : Progress) (m : Memory) (out
   pub memory : m ≡ r .memory
   pub buffer : out′ ≡ paste out 0 (r .text) (length (r .text))
 
--- "or a last one without line feed, prints 21 with 0": where bytes are left over, and the buffer has ten
+-- "or a last one without line feed, prints 21 with 0": where bytes are left over, and the buffer has ten (Lines and columns)
 unfoldable pub restText : ℕ → List ℕ → List ℕ
 restText rest out = pick (leb 1 rest && leb 10 (length out)) (printed (refused MALFORMED)) []
 

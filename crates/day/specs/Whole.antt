@@ -1,5 +1,5 @@
 -- What gateday prints for its whole input, "reads call lines from standard input, prints for each ..", and the same where the input comes in
--- pieces, as the program reads it. Pieces.antt proves that the two are one (`pieces`). A text is a list of bytes.
+-- pieces, as the program reads it. Pieces.antt proves that the two are one (`pieces`). A text is a list of bytes. (Lines and columns)
 use Prim.Native.Nat.{ℕ}
 use mathlib.Core.List.{List, [], _∷_, _++_}
 use lib.Dec.{leb}
@@ -21,7 +21,7 @@ toldAll m t = told (length t) m t
 abbrev pub behindLast : Memory → List ℕ → List ℕ
 behindLast m t = drop ((toldAll m t) .used) t
 
--- "or a last one without line feed, prints 21 with 0 and is skipped"
+-- "or a last one without line feed, prints 21 with 0 and is skipped" (Lines and columns)
 abbrev pub lastText : List ℕ → List ℕ
 lastText rest = pick (leb 1 (length rest)) (printed (refused MALFORMED)) []
 
@@ -34,7 +34,7 @@ pub record Printed : Type 0 where
 abbrev pub day : Memory → List ℕ → Printed
 day m t = record { text = (toldAll m t) .text ++ lastText (behindLast m t); memory = (toldAll m t) .memory }
 
--- "and at the end the listing": of the memory that the last call left
+-- "and at the end the listing": of the memory that the last call left (Lines and columns)
 abbrev pub dayText : (Memory → List ℕ) → Memory → List ℕ → List ℕ
 dayText listing m t = (day m t) .text ++ listing ((day m t) .memory)
 

@@ -34,7 +34,7 @@ pub fn count_of(figures: Figures) -> u64
     smaller(figures.standing, MOST_DECLARERS)
 }
 
-// "at most eight declarers a group have a figure standing"
+// "at most eight declarers a group have a figure standing" (Quotas)
 pub fn is_full(figures: Figures) -> bool
     ensures { λ r. ⌜ r ≡ leb mostDeclarers (length (standingOf figures)) ⌝ }
 {
@@ -86,7 +86,7 @@ fn sum_in(quotas: [Millions; 8], n: usize) -> u64
     sum
 }
 
-// "the sum of standing figures"
+// "the sum of standing figures" (Quotas)
 pub fn sum_of(figures: Figures) -> Millions
     ensures { λ r. ⌜ r ≡ sumOf figures ⌝ }
 {
@@ -124,7 +124,7 @@ fn added(figures: Figures, declarer: u64, quota: Millions) -> Figures
     }
 }
 
-// "The last figure of each declarer stands": in the place of its former one, else after the others. A ninth is not taken.
+// "The last figure of each declarer stands": in the place of its former one, else after the others. A ninth is not taken. (Quotas)
 pub fn declared(figures: Figures, declarer: u64, quota: Millions) -> Figures
     ensures { λ r. ⌜ r ≡ declaredFigures figures declarer quota ⌝ }
 {
@@ -181,7 +181,7 @@ fn closed(figures: Figures, place: usize) -> Figures
     }
 }
 
-// "and a withdrawn place is used again": the later figures move down, in their order.
+// "and a withdrawn place is used again": the later figures move down, in their order. (Quotas)
 pub fn withdrawn(figures: Figures, declarer: u64) -> Figures
     ensures { λ r. ⌜ r ≡ withdrawnFigures figures declarer ⌝ }
 {

@@ -1,5 +1,5 @@
 -- The table of answers, the listing's part: "22: listing buffer shorter than 108 bytes a group; a longer one keeps its tail", over every lent
--- memory after a proper opening. Expected values are worked out from document 01; the rooms are carried over from the history.
+-- memory after a proper opening. Expected values are worked out from document 01; the rooms are carried over from the history. (Refusal list)
 use Prim.Native.Nat.{ℕ, zero, suc}
 use Prim.Native.String.{String}
 use mathlib.Core.Path.{_≡_, refl, _∙_}
@@ -64,7 +64,7 @@ module _ (lent : Memory) where
     -- 64
     pub all : (Lists (enrols 64) 6_911 22)
         × (Lists (enrols 64) 6_912 0)
-    -- "a longer one keeps its tail"
+    -- "a longer one keeps its tail" (Refusal list)
     pub tail : Leaves morning (replicate 111 7) (bytes "    1 1       8       5                    0                    0                    0                    0\n" ++ (7 ∷ 7 ∷ 7 ∷ []))
 
   module _ (o : openRefusal lent ≡ 0) where

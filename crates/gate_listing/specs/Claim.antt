@@ -35,7 +35,7 @@ historyRow h g = record {
   net = (signedNet (moneyOf h g)) .size;
 }
 
--- "one group in enrolment order": n groups from number i on, and all
+-- "one group in enrolment order": n groups from number i on, and all (Lines and columns)
 unfoldable pub historyRowsOn : History → ℕ → ℕ → List Row
 historyRowsOn h i zero = []
 historyRowsOn h i (suc n) = historyRow h i ∷ historyRowsOn h (suc i) n

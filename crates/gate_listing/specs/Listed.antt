@@ -1,5 +1,5 @@
--- The gate's listing: "one group in enrolment order", into a lent buffer. 1 where the gate's memory is not sound or "a row would break its
--- rules"; 22 where the buffer is "shorter than 108 bytes a group; a longer one keeps its tail". A refusal writes no byte.
+-- The gate's listing: "one group in enrolment order", into a lent buffer. 1 where the gate's memory is not sound or "a row would break its rules"; 22
+-- where the buffer is "shorter than 108 bytes a group; a longer one keeps its tail". A refusal writes no byte. (Lines and columns; Refusal list)
 use Prim.Native.Nat.{ℕ, zero, suc, _*_}
 use mathlib.Core.Bool.{Bool, not, _&&_}
 use mathlib.Core.List.{List, [], _∷_}

@@ -1,5 +1,5 @@
--- A lent list of calls, run in order: five words a call, "code 1 to 11" and four fields in the paper's order; two words an answer, the
--- refusal and the number given. Fields that a call does not use are ignored. Shanghai's rule.
+-- A lent list of calls, run in order: five words a call, "the code, 1 to 11", and four fields in the paper's order; two words an answer, the refusal
+-- and the number given. Fields that a call does not use are ignored. Shanghai's rule. (Lines and columns)
 use Prim.Native.Nat.{ℕ, zero, suc, _+_, _*_, _/_}
 use mathlib.Core.Path.{_≡_, refl}
 use mathlib.Core.Bool.{Bool, false, _&&_}

@@ -17,7 +17,7 @@ use listing::lines::ROW;
 use quota::asks::groups_enrolled;
 use register::layout::REGISTER;
 
-// "Program `gateday` has N = 2,048": so many places, in words.
+// "Program `gateday` has N = 2,048": so many places, in words. (Lines and columns)
 const PLACES: usize = PLACE_WORDS * 2048;
 
 // The first n bytes, to standard output.
@@ -79,7 +79,7 @@ fn print_lines(
     from
 }
 
-// "and at the end the listing": a line without line feed first, where one is left.
+// "and at the end the listing": a line without line feed first, where one is left. (Lines and columns)
 fn print_end(register: &[u32], book: &[u64], places: &[u64], rest: usize, out: &mut [u8]) {
     let n = answer_rest(rest, out);
     print(out, n);

@@ -17,7 +17,7 @@ use Rattle.history.specs.Told.{enrol, regular, raise, withdraw, ownQuota
 pub record DeclarationsAnswered : Type 0 where
   -- call 4, regular (declarer, group, base, quota): 2, 6, 7, 8, 9, 10
 
-  -- "declarer 0 to 99,999", "group number 0 to 63", "asset base and quota 0 to 9,999,999 millions"
+  -- "declarer 0 to 99,999", "group number 0 to 63", "asset base and quota 0 to 9,999,999 millions" (Money and names)
   pub regular-ranges : After three (
       regular 0 1 5 5 ⇒ 0
       ∷ regular 99_999 1 5 5 ⇒ 0
@@ -35,7 +35,7 @@ pub record DeclarationsAnswered : Type 0 where
       ∷ regular 11 63 5 6 ⇒ 6
       ∷ regular 11 63 0 0 ⇒ 6
       ∷ [])
-  -- "class 1 is declared by the firm alone"; 7 before 8 and 9, behind 2; not for classes 3 and 4, the code 2
+  -- "class 1 is declared by the firm alone"; 7 before 8 and 9, behind 2; not for classes 3 and 4, the code 2 (Quotas)
   pub regular-firm : After three (
       regular 1 0 2 5 ⇒ 0
       ∷ regular 2 0 2 5 ⇒ 7
@@ -48,7 +48,7 @@ pub record DeclarationsAnswered : Type 0 where
       ∷ regular 1 2 5 5 ⇒ 0
       ∷ regular 2 2 5 5 ⇒ 0
       ∷ [])
-  -- "the quota equals the asset base for classes 3 and 4"
+  -- "the quota equals the asset base for classes 3 and 4" (Quotas)
   pub regular-base : After three (
       regular 11 1 5 4 ⇒ 8
       ∷ regular 11 1 5 5 ⇒ 0
@@ -61,7 +61,7 @@ pub record DeclarationsAnswered : Type 0 where
       ∷ regular 11 2 100_001 100_001 ⇒ 0
       ∷ regular 11 2 100_001 100_000 ⇒ 8
       ∷ [])
-  -- "base × 2.5 rounded half up for class 1": 2.5, 5, 12.5; 9,999,997.5 at the top of the range, and 10,000,000 above it
+  -- "base × 2.5 rounded half up for class 1": 2.5, 5, 12.5; 9,999,997.5 at the top of the range, and 10,000,000 above it (Quotas)
   pub regular-half : After three (
       regular 1 0 1 2 ⇒ 8
       ∷ regular 1 0 1 3 ⇒ 0
@@ -79,7 +79,7 @@ pub record DeclarationsAnswered : Type 0 where
       ∷ regular 1 0 4_000_000 10_000_000 ⇒ 2
       ∷ regular 1 0 9_999_999 9_999_999 ⇒ 8
       ∷ [])
-  -- "9: nothing to withdraw (call 4 with base 0 and no figure of that declarer standing ..)"; 8 before it
+  -- "9: nothing to withdraw (call 4 with base 0 and no figure of that declarer standing ..)"; 8 before it (Refusal list)
   pub regular-nothing : After (three ++ (regular 11 1 5 5 ∷ [])) (
       regular 11 1 0 0 ⇒ 0
       ∷ regular 12 1 0 0 ⇒ 9
@@ -101,12 +101,12 @@ pub record DeclarationsAnswered : Type 0 where
       ∷ close ⇒ 0
       ∷ regular 11 0 0 0 ⇒ 9
       ∷ [])
-  -- "at most eight declarers a group have a figure standing": an eighth
+  -- "at most eight declarers a group have a figure standing": an eighth (Quotas)
   pub regular-eighth : After (enrol 5 4 ∷ declarers 7) (
       regular 8 0 1 1 ⇒ 0
       ∷ regular 7 0 2 2 ⇒ 0
       ∷ [])
-  -- "10: new declarer while eight stand"; 8 and 9 before it; another group has its own eight
+  -- "10: new declarer while eight stand"; 8 and 9 before it; another group has its own eight (Refusal list)
   pub regular-ninth : After (eight ++ (enrol 5 3 ∷ [])) (
       regular 9 0 1 1 ⇒ 10
       ∷ regular 0 0 1 1 ⇒ 10
@@ -118,7 +118,7 @@ pub record DeclarationsAnswered : Type 0 where
       ∷ regular 9 1 1 1 ⇒ 0
       ∷ regular 9 0 10_000_000 10_000_000 ⇒ 2
       ∷ [])
-  -- "a withdrawn place is used again", once
+  -- "a withdrawn place is used again", once (Quotas)
   pub regular-place-again : After (eight ++ (regular 5 0 0 0 ∷ [])) (
       regular 9 0 1 1 ⇒ 0
       ∷ regular 5 0 1 1 ⇒ 0
@@ -133,7 +133,7 @@ pub record DeclarationsAnswered : Type 0 where
       ∷ [])
   -- call 5, emergency (declarer, group, quota, flag): 2, 6, 7, 11, 12, 13
 
-  -- ranges; "2: .. emergency quota 0; flag above 1"; "6: group not enrolled", 13 behind it
+  -- ranges; "2: .. emergency quota 0; flag above 1"; "6: group not enrolled", 13 behind it (Refusal list)
   pub raise-ranges : After three (
       raise 0 1 5 0 ⇒ 0
       ∷ raise 99_999 1 5 0 ⇒ 0
@@ -152,7 +152,7 @@ pub record DeclarationsAnswered : Type 0 where
       ∷ raise 11 63 5 2 ⇒ 2
       ∷ raise 11 63 5 1 ⇒ 6
       ∷ [])
-  -- "flag: 1 above the threshold, else 0"; "13: flag disagrees with the threshold", where the maximum is none
+  -- "flag: 1 above the threshold, else 0"; "13: flag disagrees with the threshold", where the maximum is none (The eleven calls; Refusal list)
   pub raise-flag : After three (
       raise 11 1 5 1 ⇒ 13
       ∷ raise 11 1 99_999 1 ⇒ 13
@@ -162,7 +162,7 @@ pub record DeclarationsAnswered : Type 0 where
       ∷ raise 11 1 100_001 1 ⇒ 0
       ∷ raise 11 1 9_999_999 0 ⇒ 13
       ∷ [])
-  -- "7: class 1 and declarer isn't the code"; before 12 and 13
+  -- "7: class 1 and declarer isn't the code"; before 12 and 13 (Refusal list)
   pub raise-firm : After morning (
       raise 1 0 9 0 ⇒ 0
       ∷ raise 2 0 9 0 ⇒ 7
@@ -173,7 +173,7 @@ pub record DeclarationsAnswered : Type 0 where
       ∷ raise 1 1 9 0 ⇒ 0
       ∷ raise 1 2 9 0 ⇒ 0
       ∷ [])
-  -- "12: emergency quota not above the maximum in force (never where it is none)"; 13 behind it
+  -- "12: emergency quota not above the maximum in force (never where it is none)"; 13 behind it (Refusal list)
   pub raise-above : After morning (
       raise 11 1 6 0 ⇒ 12
       ∷ raise 11 1 7 0 ⇒ 12
@@ -184,7 +184,7 @@ pub record DeclarationsAnswered : Type 0 where
       ∷ raise 1 0 9 0 ⇒ 0
       ∷ raise 11 2 1 0 ⇒ 0
       ∷ [])
-  -- "11: emergency held by another declarer with no withdrawal filed"; before 12 and 13; the holder may raise further, above it
+  -- "11: emergency held by another declarer with no withdrawal filed"; before 12 and 13; the holder may raise further, above it (Refusal list)
   pub raise-held : After held (
       raise 12 1 21 0 ⇒ 11
       ∷ raise 2 1 21 0 ⇒ 11
@@ -205,7 +205,7 @@ pub record DeclarationsAnswered : Type 0 where
       ∷ raise 1 0 10 0 ⇒ 0
       ∷ withdraw 1 0 ⇒ 0
       ∷ [])
-  -- "After a filed withdrawal any declarer may raise again": above the maximum in force, which is still 20
+  -- "After a filed withdrawal any declarer may raise again": above the maximum in force, which is still 20 (Quotas)
   pub raise-filed : After filed (
       raise 12 1 21 0 ⇒ 0
       ∷ raise 11 1 21 0 ⇒ 0
@@ -221,7 +221,7 @@ pub record DeclarationsAnswered : Type 0 where
       ∷ raise 11 1 20 0 ⇒ 12
       ∷ raise 11 1 21 0 ⇒ 0
       ∷ [])
-  -- "at the close, when nobody holds it any longer"
+  -- "at the close, when nobody holds it any longer" (Quotas)
   pub raise-gone : After (filed ++ (close ∷ [])) (
       withdraw 11 1 ⇒ 9
       ∷ withdraw 12 1 ⇒ 9
@@ -229,7 +229,7 @@ pub record DeclarationsAnswered : Type 0 where
       ∷ raise 12 1 8 0 ⇒ 0
       ∷ raise 11 1 8 0 ⇒ 0
       ∷ [])
-  -- "which voids the filing": held by the new declarer
+  -- "which voids the filing": held by the new declarer (Quotas)
   pub raise-voids : After (filed ++ (raise 12 1 21 0 ∷ [])) (
       withdraw 11 1 ⇒ 11
       ∷ raise 11 1 22 0 ⇒ 11
@@ -238,7 +238,7 @@ pub record DeclarationsAnswered : Type 0 where
       ∷ [])
   -- call 6, withdraw emergency (declarer, group): 2, 6, 7, 9, 11
 
-  -- ranges; "6: group not enrolled"
+  -- ranges; "6: group not enrolled" (Refusal list)
   pub withdraw-ranges : After (three ++ (raise 0 1 5 0 ∷ raise 99_999 2 5 0 ∷ [])) (
       withdraw 0 1 ⇒ 0
       ∷ withdraw 99_999 2 ⇒ 0
@@ -248,7 +248,7 @@ pub record DeclarationsAnswered : Type 0 where
       ∷ withdraw 11 64 ⇒ 2
       ∷ withdraw 100_000 63 ⇒ 2
       ∷ [])
-  -- "9: nothing to withdraw (.. call 6 with no emergency held)"; 7 before it
+  -- "9: nothing to withdraw (.. call 6 with no emergency held)"; 7 before it (Refusal list)
   pub withdraw-nothing : After morning (
       withdraw 11 1 ⇒ 9
       ∷ withdraw 12 1 ⇒ 9
@@ -256,21 +256,21 @@ pub record DeclarationsAnswered : Type 0 where
       ∷ withdraw 2 0 ⇒ 7
       ∷ withdraw 11 2 ⇒ 9
       ∷ [])
-  -- "Its withdrawal is filed by that declarer"; "11: .. held by another declarer with no withdrawal filed"
+  -- "Its withdrawal is filed by that declarer"; "11: .. held by another declarer with no withdrawal filed" (Quotas; Refusal list)
   pub withdraw-held : After held (
       withdraw 11 1 ⇒ 0
       ∷ withdraw 12 1 ⇒ 11
       ∷ withdraw 2 1 ⇒ 11
       ∷ withdraw 11 2 ⇒ 9
       ∷ [])
-  -- "9: .. withdrawal already filed (call 6)", by whomever
+  -- "9: .. withdrawal already filed (call 6)", by whomever (Refusal list)
   pub withdraw-filed : After filed (
       withdraw 11 1 ⇒ 9
       ∷ withdraw 12 1 ⇒ 9
       ∷ [])
   -- call 7, own quota (group, quota): 2, 6, 14, 15
 
-  -- ranges; "6: group not enrolled"; "14: own quota above the maximum", at it, below it, 0; "15: maximum is none", and then never 14
+  -- ranges; "6: group not enrolled"; "14: own quota above the maximum", at it, below it, 0; "15: maximum is none", and then never 14 (Refusal list)
   pub own-quota : After morning (
       ownQuota 3 0 ⇒ 6
       ∷ ownQuota 63 0 ⇒ 6

@@ -25,14 +25,14 @@ module _ (N : ℕ) (rule : Rule) (h : History) where
   rises (Cancel order) = cancel-rises order (placeReads h order)
   rises Close = close-rises
 
-  -- "Of several that apply the smallest is returned."
+  -- "Of several that apply the smallest is returned." (Refusal list)
   pub smallest-given : (c : Call) (n : ℕ) → Applies n (refusals N rule h c) → rank (refusalOf N rule h c) ≤ rank n
   smallest-given c n a = smallest 1 n (refusals N rule h c) (rises c) a
 
-  -- "Each is returned whenever its condition holds and no smaller one does."
+  -- "Each is returned whenever its condition holds and no smaller one does." (Refusal list)
   pub each-given : (c : Call) (n : ℕ) → Applies n (refusals N rule h c) → ((k : ℕ) → rank k < rank n → Applies k (refusals N rule h c) → ⊥) → refusalOf N rule h c ≡ n
   each-given c n a none = given 1 n (refusals N rule h c) (rises c) a none
 
-  -- "1 left aside"
+  -- "1 left aside" (The history)
   pub never-unsound : (c : Call) → refusalOf N rule h c ≢ 1
   never-unsound c = never-one (refusals N rule h c) (rises c)

@@ -17,7 +17,7 @@ use Rattle.history.specs.Told.{enrol, attach, raise, ownQuota, order, fi
 pub record OrdersAnswered : Type 0 where
   -- call 8, order (unit, kind, price, quantity): 2, 6, 15, 16, 17
 
-  -- units; "6: .. unit not attached"; 2 before it
+  -- units; "6: .. unit not attached"; 2 before it (Refusal list)
   pub order-units : After (morning ++ (attach 0 0 ∷ attach 99_999 0 ∷ [])) (
       order 0 1 1 1 takes 1
       ∷ order 99_999 1 1 1 takes 1
@@ -28,7 +28,7 @@ pub record OrdersAnswered : Type 0 where
       ∷ order 20_004 1 0 1 ⇒ 2
       ∷ order 20_004 7 1 1 ⇒ 2
       ∷ [])
-  -- "Kinds: 1 .. 6"
+  -- "Kinds: 1 .. 6" (Orders)
   pub order-kinds : After morning (
       order 20_001 0 1 1 ⇒ 2
       ∷ order 20_001 0 0 1 ⇒ 2
@@ -41,7 +41,7 @@ pub record OrdersAnswered : Type 0 where
       ∷ order 20_001 7 100_000 1 ⇒ 2
       ∷ order 20_001 7 0 1 ⇒ 2
       ∷ [])
-  -- "price 1 to 9,999,999": kinds 1, 2 and 4
+  -- "price 1 to 9,999,999": kinds 1, 2 and 4 (Money and names)
   pub order-prices : After morning (
       order 20_001 1 0 1 ⇒ 2
       ∷ order 20_001 1 1 1 takes 1
@@ -56,7 +56,7 @@ pub record OrdersAnswered : Type 0 where
       ∷ order 20_001 4 9_999_999 1 takes 1
       ∷ order 20_001 4 10_000_000 1 ⇒ 2
       ∷ [])
-  -- "Kinds 3 and 6 bear price 100,000."
+  -- "Kinds 3 and 6 bear price 100,000." (Orders)
   pub order-repo : After morning (
       order 20_001 3 0 1 ⇒ 2
       ∷ order 20_001 3 99_999 1 ⇒ 2
@@ -67,14 +67,14 @@ pub record OrdersAnswered : Type 0 where
       ∷ order 20_001 6 100_000 1 takes 1
       ∷ order 20_001 6 100_001 1 ⇒ 2
       ∷ [])
-  -- "5 market sell (price 0, the one exception to the range)"
+  -- "5 market sell (price 0, the one exception to the range)" (Orders)
   pub order-market-sell : After morning (
       order 20_001 5 0 1 takes 1
       ∷ order 20_001 5 1 1 ⇒ 2
       ∷ order 20_001 5 100_000 1 ⇒ 2
       ∷ order 20_001 5 9_999_999 1 ⇒ 2
       ∷ [])
-  -- "quantity 1 to 10,000,000"
+  -- "quantity 1 to 10,000,000" (Money and names)
   pub order-quantities : After morning (
       order 20_001 1 1 0 ⇒ 2
       ∷ order 20_001 1 1 1 takes 1
@@ -90,7 +90,7 @@ pub record OrdersAnswered : Type 0 where
       order 20_001 1 9_999_999 10_000_000 takes 1
       ∷ order 20_001 4 9_999_999 10_000_000 takes 1
       ∷ [])
-  -- "15: maximum is none (.. buys)": "Kinds 1, 2, 3 are buys"; 2 and 6 before it
+  -- "15: maximum is none (.. buys)": "Kinds 1, 2, 3 are buys"; 2 and 6 before it (Refusal list; Orders)
   pub order-no-maximum : After three (
       order 20_002 1 1 1 ⇒ 15
       ∷ order 20_002 2 1 1 ⇒ 15
@@ -101,7 +101,7 @@ pub record OrdersAnswered : Type 0 where
       ∷ order 20_002 1 0 1 ⇒ 2
       ∷ order 20_004 1 1 1 ⇒ 6
       ∷ [])
-  -- "16: buy with net at or above the own quota": own 5 million yuan; net 1 mil below it, the order that crosses passes
+  -- "16: buy with net at or above the own quota": own 5 million yuan; net 1 mil below it, the order that crosses passes (Refusal list)
   pub order-below : After (morning ++ (ownQuota 0 5 ∷ order 20_001 1 4_999_999 1_000 ∷ order 20_001 1 999 1 ∷ [])) (
       order 20_001 1 1 1 takes 3
       ∷ order 20_001 1 9_999_999 10_000_000 takes 3
@@ -126,7 +126,7 @@ pub record OrdersAnswered : Type 0 where
       order 20_001 1 1 1 ⇒ 16
       ∷ order 20_001 4 1 1 takes 4
       ∷ [])
-  -- "Undeclared, it equals the maximum": 8
+  -- "Undeclared, it equals the maximum": 8 (Quotas)
   pub order-undeclared : After (morning ++ (order 20_001 1 7_999_999 1_000 ∷ order 20_001 1 999 1 ∷ [])) (
       order 20_001 1 1 1 takes 3
       ∷ ownQuota 0 7 ⇒ 0
@@ -136,7 +136,7 @@ pub record OrdersAnswered : Type 0 where
       order 20_001 1 1 1 ⇒ 16
       ∷ raise 1 0 9 0 ⇒ 0
       ∷ [])
-  -- "holds immediately": own quota and emergency, between two buys; a cancel, a better fill and a sell's fill let a buy in again
+  -- "holds immediately": own quota and emergency, between two buys; a cancel, a better fill and a sell's fill let a buy in again (Quotas)
   pub order-again : Day (
       enrol 1 3 takes 0
       ∷ attach 7 0 ⇒ 0
@@ -155,7 +155,8 @@ pub record OrdersAnswered : Type 0 where
       ∷ cancel 2 ⇒ 0
       ∷ order 7 1 1 1 takes 4
       ∷ [])
-  -- "An accepted order takes the next number k from 1"; "17: N orders accepted since the close": N − 1, N; not freed by cancel, fill or refusal; freed by the close
+  -- "An accepted order takes the next number k from 1"; "17: N orders accepted since the close": N − 1, N; not freed by cancel, fill or refusal;
+  -- freed by the close (Orders; Refusal list)
   pub order-numbers : DayOf 2 (
       enrol 1 1 takes 0
       ∷ attach 7 0 ⇒ 0
@@ -190,7 +191,8 @@ pub record OrdersAnswered : Type 0 where
       ∷ [])
   -- call 9, fill (order, price, quantity): 2, 18, 19, 20
 
-  -- "order number 1 to 65,536", price and quantity; "18: order number not given since the close": the last number is 2, N is 4
+  -- "order number 1 to 65,536", price and quantity; "18: order number not given since the close":
+  -- the last number is 2, N is 4 (Money and names; Refusal list)
   pub fill-ranges : After (morning ++ (order 20_001 5 0 10_000_000 ∷ order 20_001 1 500 10 ∷ [])) (
       fill 0 500 1 ⇒ 2
       ∷ fill 1 500 1 ⇒ 0
@@ -212,7 +214,7 @@ pub record OrdersAnswered : Type 0 where
       ∷ fill 3 500 10_000_000 ⇒ 18
       ∷ fill 2 0 11 ⇒ 2
       ∷ [])
-  -- "19: quantity above the open quantity"; before 20
+  -- "19: quantity above the open quantity"; before 20 (Refusal list)
   pub fill-open : After (morning ++ (order 20_001 1 500 10 ∷ fill 1 500 3 ∷ order 20_001 4 500 10 ∷ [])) (
       fill 1 500 6 ⇒ 0
       ∷ fill 1 500 7 ⇒ 0
@@ -223,7 +225,7 @@ pub record OrdersAnswered : Type 0 where
       ∷ fill 2 500 11 ⇒ 19
       ∷ fill 2 499 11 ⇒ 19
       ∷ [])
-  -- until nothing is open, by fills or by a cancel; a refused fill takes nothing; "order number not given since the close"
+  -- until nothing is open, by fills or by a cancel; a refused fill takes nothing; "order number not given since the close" (Refusal list)
   pub fill-until : Day (
       enrol 1 3 takes 0
       ∷ attach 7 0 ⇒ 0
@@ -245,7 +247,7 @@ pub record OrdersAnswered : Type 0 where
       ∷ fill 1 500 1 ⇒ 18
       ∷ cancel 2 ⇒ 18
       ∷ [])
-  -- "20: fill price above the order's (kinds 1, 2)"
+  -- "20: fill price above the order's (kinds 1, 2)" (Refusal list)
   pub fill-buys : After (morning ++ (order 20_001 1 500 10 ∷ order 20_001 2 500 10 ∷ [])) (
       fill 1 1 1 ⇒ 0
       ∷ fill 1 499 1 ⇒ 0
@@ -258,7 +260,7 @@ pub record OrdersAnswered : Type 0 where
       ∷ fill 2 501 1 ⇒ 20
       ∷ fill 2 9_999_999 1 ⇒ 20
       ∷ [])
-  -- "below it (4)"; a market sell is filled at any price
+  -- "below it (4)"; a market sell is filled at any price (Refusal list)
   pub fill-sells : After (morning ++ (order 20_001 4 500 10 ∷ order 20_001 5 0 10 ∷ [])) (
       fill 1 1 1 ⇒ 20
       ∷ fill 1 499 1 ⇒ 20
@@ -269,7 +271,7 @@ pub record OrdersAnswered : Type 0 where
       ∷ fill 2 100_000 1 ⇒ 0
       ∷ fill 2 9_999_999 1 ⇒ 0
       ∷ [])
-  -- "other than 100,000 (3, 6)"
+  -- "other than 100,000 (3, 6)" (Refusal list)
   pub fill-repo : After (morning ++ (order 20_001 3 100_000 10 ∷ order 20_001 6 100_000 10 ∷ [])) (
       fill 1 1 1 ⇒ 20
       ∷ fill 1 99_999 1 ⇒ 20
@@ -282,7 +284,7 @@ pub record OrdersAnswered : Type 0 where
       ∷ [])
   -- call 10, cancel (order): 2, 18, 19
 
-  -- "order number 1 to 65,536"; 18; "19: .. cancel with none open"
+  -- "order number 1 to 65,536"; 18; "19: .. cancel with none open" (Money and names; Refusal list)
   pub cancelling : After (morning ++ (order 20_001 1 500 10 ∷ order 20_001 4 500 10 ∷ order 20_001 4 500 10 ∷ fill 1 500 3 ∷ fill 2 500 10 ∷ [])) (
       cancel 0 ⇒ 2
       ∷ cancel 1 ⇒ 0

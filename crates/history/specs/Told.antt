@@ -54,12 +54,12 @@ close = Close
 
 -- ---- the forms of a line
 
--- a call and its answer: "A refusal returns its number alone", or 0
+-- a call and its answer: "A refusal returns its number alone", or 0 (Refusal list)
 infix 80 _⇒_
 abbrev pub _⇒_ : Call → ℕ → Call × Answer
 call ⇒ n = (call, record { refusal = n; number = 0 })
 
--- accepted, "with the next number at calls 1 and 8"
+-- accepted, "with the next number at calls 1 and 8" (The history)
 infix 80 _takes_
 abbrev pub _takes_ : Call → ℕ → Call × Answer
 call takes n = (call, record { refusal = 0; number = n })

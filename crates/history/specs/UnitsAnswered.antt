@@ -17,7 +17,7 @@ use Rattle.history.specs.Told.{enrol, attach, detach, regular, raise, wi
 pub record UnitsAnswered : Type 0 where
   -- call 1, enrol group (code, class): 2, 3, 4, 5
 
-  -- "institution code .. 0 to 99,999", "control class 1 to 4"; "3: enrolling class 2"; 2 before 3
+  -- "institution code .. 0 to 99,999", "control class 1 to 4"; "3: enrolling class 2"; 2 before 3 (Money and names; Refusal list)
   pub enrol-ranges : After [] (
       enrol 0 1 takes 0
       ∷ enrol 99_999 1 takes 0
@@ -30,7 +30,7 @@ pub record UnitsAnswered : Type 0 where
       ∷ enrol 1 5 ⇒ 2
       ∷ enrol 100_000 2 ⇒ 2
       ∷ [])
-  -- "A group is an institution code with a control class"; "4: group already enrolled"
+  -- "A group is an institution code with a control class"; "4: group already enrolled" (Money and names; Refusal list)
   pub enrol-again : After (enrol 9 3 ∷ enrol 1 1 ∷ enrol 5 4 ∷ []) (
       enrol 9 3 ⇒ 4
       ∷ enrol 1 1 ⇒ 4
@@ -40,7 +40,7 @@ pub record UnitsAnswered : Type 0 where
       ∷ enrol 2 1 takes 3
       ∷ enrol 1 2 ⇒ 3
       ∷ [])
-  -- "given the next group number from 0"; a refused call takes none; groups outlive the close
+  -- "given the next group number from 0"; a refused call takes none; groups outlive the close (The eleven calls)
   pub enrol-numbers : Day (
       enrol 7 3 takes 0
       ∷ enrol 7 3 ⇒ 4
@@ -50,14 +50,14 @@ pub record UnitsAnswered : Type 0 where
       ∷ enrol 7 4 ⇒ 4
       ∷ enrol 8 3 takes 2
       ∷ [])
-  -- "at most 64 groups"
+  -- "at most 64 groups" (Money and names)
   pub enrol-sixty-fourth : After (enrols 63) (
       enrol 99 4 takes 63
       ∷ enrol 62 4 ⇒ 4
       ∷ attach 1 62 ⇒ 0
       ∷ attach 1 63 ⇒ 6
       ∷ [])
-  -- "5: 64 groups .. already"; 2, 3 and 4 before it; group 63 is one
+  -- "5: 64 groups .. already"; 2, 3 and 4 before it; group 63 is one (Refusal list)
   pub enrol-sixty-fifth : After (enrols 64) (
       enrol 99 4 ⇒ 5
       ∷ enrol 63 3 ⇒ 5
@@ -74,7 +74,7 @@ pub record UnitsAnswered : Type 0 where
       ∷ [])
   -- call 2, attach unit (unit, group): 2, 4, 5, 6
 
-  -- "trading unit .. 0 to 99,999", "group number 0 to 63"; "6: group not enrolled"
+  -- "trading unit .. 0 to 99,999", "group number 0 to 63"; "6: group not enrolled" (Money and names; Refusal list)
   pub attach-ranges : After three (
       attach 0 0 ⇒ 0
       ∷ attach 99_999 0 ⇒ 0
@@ -84,7 +84,7 @@ pub record UnitsAnswered : Type 0 where
       ∷ attach 1 63 ⇒ 6
       ∷ attach 1 64 ⇒ 2
       ∷ [])
-  -- "4: .. unit already attached", to whatever group; 2 before it, 6 behind it
+  -- "4: .. unit already attached", to whatever group; 2 before it, 6 behind it (Refusal list)
   pub attach-again : After three (
       attach 20_001 0 ⇒ 4
       ∷ attach 20_001 1 ⇒ 4
@@ -92,11 +92,11 @@ pub record UnitsAnswered : Type 0 where
       ∷ attach 20_001 63 ⇒ 4
       ∷ attach 20_001 64 ⇒ 2
       ∷ [])
-  -- "256 attached units"
+  -- "256 attached units" (Money and names)
   pub attach-last : After (enrol 5 4 ∷ attaches 255) (
       attach 300 0 ⇒ 0
       ∷ [])
-  -- "5: .. 256 units already"; 2 and 4 before it, 6 behind it
+  -- "5: .. 256 units already"; 2 and 4 before it, 6 behind it (Refusal list)
   pub attach-full : After (enrol 5 4 ∷ attaches 256) (
       attach 300 0 ⇒ 5
       ∷ attach 255 0 ⇒ 4
@@ -113,7 +113,7 @@ pub record UnitsAnswered : Type 0 where
       ∷ [])
   -- call 3, detach unit (unit): 2, 6
 
-  -- "6: .. unit not attached"; 2 before it
+  -- "6: .. unit not attached"; 2 before it (Refusal list)
   pub detaching : After (three ++ (attach 0 1 ∷ attach 99_999 1 ∷ [])) (
       detach 0 ⇒ 0
       ∷ detach 99_999 ⇒ 0
@@ -122,7 +122,7 @@ pub record UnitsAnswered : Type 0 where
       ∷ detach 20_003 ⇒ 0
       ∷ detach 20_004 ⇒ 6
       ∷ [])
-  -- "3 frees it": and it may be attached to another group
+  -- "3 frees it": and it may be attached to another group (The history)
   pub detached : Day (
       enrol 1 1 takes 0
       ∷ enrol 2 3 takes 1

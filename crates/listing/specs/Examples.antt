@@ -64,7 +64,7 @@ pub record Examples : Type 0 where
   pub paper : Written paperRow paperLine
   pub none : Written noneRow noneLine
   pub below : Written belowRow belowLine
-  -- "no groups, no bytes"
+  -- "no groups, no bytes" (Lines and columns)
   pub empty : (refusalOfText [] ≡ 0) × ((rowsIn [] ≡ []) × (stepAt [] 0 ≡ End))
   pub handed-out : (stepAt (bytes paperLine) 0 ≡ Next paperRow) × (stepAt (bytes paperLine) 108 ≡ End)
   -- no line feed, a blank or a carriage return in its place, one too many, a header
@@ -91,7 +91,7 @@ pub record Examples : Type 0 where
   pub above-L : Refused "    1 1       8       5  6553599344640000001  6553599344640000001                    0                    0\n"
   -- code with class repeated
   pub repeated : refusalOfText (bytes paperLine ++ bytes belowLine) ≡ 21
-  -- "at most 64 rows"
+  -- "at most 64 rows" (Lines and columns)
   pub most : isListing (listingText (many 64)) ≡ true
   pub too-many : refusalOfText (listingText (many 65)) ≡ 21
 

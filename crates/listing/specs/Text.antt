@@ -1,5 +1,5 @@
 -- "A listing line is one group in enrolment order: code 5 columns, class 2, maximum 8, own quota 8, net 21, open buys 21, bought 21, sold 21,
--- line feed." What is written for rows, and which texts are read as rows. A text is a list of bytes: 10 is the line feed.
+-- line feed." What is written for rows, and which texts are read as rows. A text is a list of bytes: 10 is the line feed. (Lines and columns)
 use Prim.Native.Nat.{ℕ, zero, suc, _+_, _/_, _%_}
 use mathlib.Core.Bool.{Bool, true, false, not, _&&_}
 use mathlib.Core.List.{List, [], _∷_, _++_}
@@ -28,7 +28,7 @@ use Rattle.listing.specs.declared.texts.Step.the-variants.{Next, Broken,
 abbrev pub rowBytes : ℕ
 rowBytes = 108
 
--- ""-" stands for a maximum of none, and then for own quota"
+-- ""-" stands for a maximum of none, and then for own quota" (Lines and columns)
 abbrev pub isSet : Limit → Bool
 isSet Nothing = false
 isSet (At quota) = true
@@ -69,7 +69,7 @@ rowFormed l =
     && (signedAt l 23 21) .formed && (plainAt l 44 21) .formed && (plainAt l 65 21) .formed && (plainAt l 86 21) .formed
     && sameAt l 107 (10 ∷ [])
 
--- a line is a row: 108 bytes, formed, and "a row obeys" its rules
+-- a line is a row: 108 bytes, formed, and "A row obeys: .." holds of it (Lines and columns)
 unfoldable pub rowGood : List ℕ → Bool
 rowGood l = eqb (length l) rowBytes && (rowFormed l && rowKept (rowIn l))
 
@@ -89,12 +89,12 @@ rowPut d at r = pick (rowKept r && holds (length d) at rowBytes) (paste d at (ro
 
 -- ---- rows one after the other
 
--- "No header; no groups, no bytes."
+-- "No header; no groups, no bytes." (Lines and columns)
 unfoldable pub listingText : List Row → List ℕ
 listingText [] = []
 listingText (r ∷ rs) = rowText r ++ listingText rs
 
--- "code with class not repeated"
+-- "code with class not repeated" (Lines and columns)
 abbrev pub sameKey : Row → Row → Bool
 sameKey r s = eqb (r .code) (s .code) && eqb (r .class) (s .class)
 
@@ -106,7 +106,7 @@ unfoldable pub rowsKept : List Row → Bool
 rowsKept [] = true
 rowsKept (r ∷ rs) = rowKept r && (fresh r rs && rowsKept rs)
 
--- "at most 64 rows"
+-- "at most 64 rows" (Lines and columns)
 unfoldable pub listingKept : List Row → Bool
 listingKept rs = leb (length rs) mostGroups && rowsKept rs
 
@@ -129,7 +129,7 @@ rowsIn t = rowsFrom (length t / rowBytes) t
 abbrev pub refusalOfText : List ℕ → ℕ
 refusalOfText t = pick (not (isListing t)) MALFORMED 0
 
--- "then hands out the rows one after the other": what stands at a place
+-- "then hands out the rows one after the other": what stands at a place (Lines and columns)
 abbrev pub lineStep : Line → Step
 lineStep l = pick (l .good) (Next (l .row)) Broken
 

@@ -14,7 +14,7 @@ use rows::Row;
 use rows::row_kept;
 use rules::quotas::Limit;
 
-// "code 5 columns, class 2, maximum 8, own quota 8, net 21, open buys 21, bought 21, sold 21, line feed"
+// "code 5 columns, class 2, maximum 8, own quota 8, net 21, open buys 21, bought 21, sold 21, line feed" (Lines and columns)
 pub const ROW: usize = 108;
 
 // What a line says: the row of its columns, and whether the line is that row's text and the row keeps its rules.

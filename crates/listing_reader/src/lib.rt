@@ -1,5 +1,6 @@
 // The reader: "checks the whole text, then hands out the rows one after the other". `opened` checks; `next` at 0, 108, 216, .. gives the rows of a
-// listing in order, then the end, and of any other text nothing (listing/specs/Laws.antt, `hands-out-checked`, `ends-checked` and `hands-nothing`).
+// listing in order, then the end, and of any other text nothing (listing/specs/Laws.antt, `hands-out-checked`, `ends-checked` and
+// `hands-nothing`). (Lines and columns)
 ghost use mathlib.Core.Path.{_≡_};
 ghost use Rattle.listing.specs.Text.{refusalOfText, stepIn, stepOf, movedOn};
 use listing::reader::ListingReader;
@@ -27,7 +28,7 @@ pub fn next<'a>(r: ListingReader<'a>) -> Step
     step_in(r.text, r.at, r.refusal)
 }
 
-// "hands out the rows one after the other": what stands at its position, and the reader moves on.
+// "hands out the rows one after the other": what stands at its position, and the reader moves on. (Lines and columns)
 pub fn hand_out<'s, 'a>(r: &'s mut ListingReader<'a>) -> Step
     ensures { λ s. ⌜ (s ≡ stepIn (now (now (r .entry) .text)) (now (r .entry) .at) (now (r .entry) .refusal)) × (now (r .exit) ≡ movedOn (now (r .entry))) ⌝ }
 {

@@ -12,7 +12,7 @@ use listing_row::read_line;
 use rules::refusals::MALFORMED;
 use rules::refusals::first;
 
-// "at most 64 rows"
+// "at most 64 rows" (Lines and columns)
 const MOST_ROWS: usize = 64;
 
 // What the line from at on says.
@@ -91,7 +91,7 @@ fn is_listing(text: &[u8]) -> bool
     true
 }
 
-// "The reader checks the whole text": 0, or 21 for a text that is not a listing.
+// "The reader checks the whole text": 0, or 21 for a text that is not a listing. (Lines and columns)
 pub fn refusal_of_text(text: &[u8]) -> u64
     ensures { λ r. ⌜ r ≡ refusalOfText (now (text .entry)) ⌝ }
 {

@@ -16,7 +16,7 @@ use Rattle.gate_listing.specs.Listed.{listRefusal}
 use Rattle.listing.specs.Text.{rowBytes}
 use Rattle.claim.specs.Step.{Memory}
 
--- a listing's bytes, "108 bytes a group"; none where it is refused
+-- a listing's bytes, "108 bytes a group"; none where it is refused (Refusal list)
 unfoldable pub listedBytes : Memory → ℕ → ℕ
 listedBytes m room = unlessRefused (listRefusal m room) (rowBytes * groupsEnrolled (m .register)) 0
 
@@ -45,6 +45,6 @@ handedRefusal m group room =
     (pick (ltb room rowLength) SHORT-BUFFER 0)
     ((rowOf (m .register) (m .book) (m .places) group) .refusal)
 
--- every lent word afterwards: "a longer one keeps its tail"
+-- every lent word afterwards: "a longer one keeps its tail" (Refusal list)
 unfoldable pub handedRow : Memory → ℕ → List ℕ → List ℕ
 handedRow m group out = unlessRefused (handedRefusal m group (length out)) (splice out 0 (rowWords ((rowOf (m .register) (m .book) (m .places) group) .row))) out

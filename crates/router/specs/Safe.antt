@@ -37,7 +37,7 @@ use Rattle.gate_listing.specs.Listed.{gateRows, listRefusal}
 use Rattle.router.specs.Handed.{handedRefusal}
 use Rattle.claim.specs.Step.{Memory, Stepped, memory, bookSound, enrolledBook, step}
 
--- "A refusal returns its number alone; gate, places and buffers keep their contents."
+-- "A refusal returns its number alone; gate, places and buffers keep their contents." (Refusal list)
 abbrev pub Alone : Memory → Stepped → Type 0
 Alone m s = s .answer .refusal ≢ 0 → (s .answer .number ≡ 0) × (s .memory ≡ m)
 

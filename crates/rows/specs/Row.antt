@@ -1,4 +1,5 @@
--- The row of a group: what a listing has of it, "code, class, maximum, own quota, net, open buys, bought, sold", and when there is none.
+-- The row of a group: what a listing has of it, "code .., class .., maximum .., own quota .., net .., open buys .., bought .., sold ..", and when
+-- there is none. (Lines and columns)
 use Prim.Native.Nat.{ℕ, zero, suc, _+_, _-_, _≤_}
 use mathlib.Core.Path.{_≡_, refl, ap}
 use mathlib.Core.Bool.{Bool, true, false, not, cond, _&&_, false≢true}
@@ -26,28 +27,29 @@ use Rattle.rows.specs.declared.Net.{Net}
 use Rattle.rows.specs.declared.Row.{Row}
 use Rattle.rows.specs.declared.RowRead.{RowRead}
 
--- "net = open + bought − sold", as sign and size: below 0 where more is sold
+-- "net = open + bought − sold", as sign and size: below 0 where more is sold (Lines and columns)
 unfoldable pub signedNet : Money → Net
 signedNet m =
     pick (ltb (m .«open» .0 + m .bought .0) (m .sold .0))
     (record { below = true; size = mils (m .sold .0 - (m .«open» .0 + m .bought .0)) })
     (record { below = false; size = mils (m .«open» .0 + m .bought .0 - m .sold .0) })
 
--- "class 1, 3 or 4"
+-- "class 1, 3 or 4" (Lines and columns)
 abbrev pub classKept : ℕ → Bool
 classKept class = isClass class && not (eqb class brokerage)
 
--- "own quota at most maximum"; no own quota is missing where there is a maximum
+-- "own quota at most maximum"; no own quota is missing where there is a maximum (Lines and columns)
 abbrev pub atMost : Limit → Millions → Bool
 atMost Nothing maximum = false
 atMost (At own) maximum = leb (own .0) (maximum .0)
 
--- "maximum 1 or more"; ""-" stands for a maximum of none, and then for own quota"
+-- "maximum 1 or more"; ""-" stands for a maximum of none, and then for own quota" (Lines and columns)
 abbrev pub limitsKept : Limit → Limit → Bool
 limitsKept Nothing own = isNone own
 limitsKept (At maximum) own = within 1 topQuota (maximum .0) && atMost own maximum
 
--- "A row obeys: each field in its range; class 1, 3 or 4; maximum 1 or more; own quota at most maximum; open + bought + sold at most L"
+-- "A row obeys: each field in its range; class 1, 3 or 4; maximum 1 or more; own quota at most maximum;
+-- open + bought + sold at most L" (Lines and columns)
 unfoldable pub rowObeys : ℕ → ℕ → Limit → Limit → Money → Bool
 rowObeys code class maximum own money = (isCode code && (classKept class && limitsKept maximum own)) && moneyFits money
 
@@ -56,7 +58,7 @@ abbrev pub agree : Bool → Bool → Bool
 agree true b = b
 agree false b = not b
 
--- "net = open + bought − sold"
+-- "net = open + bought − sold" (Lines and columns)
 abbrev pub netKept : Bool → ℕ → Net → Bool
 netKept below size net = agree below (net .below) && eqb size (net .size .0)
 
@@ -98,7 +100,7 @@ rowOf rs bs ps group = unlessRefused (rowRefusal rs bs ps group) (rowAt rs bs gr
 
 -- laws
 
--- "group number 0 to 63": a row of group 64 is refused by 2, one of group 63 that is not enrolled by 6, and neither where it is
+-- "group number 0 to 63": a row of group 64 is refused by 2, one of group 63 that is not enrolled by 6, and neither where it is (Money and names)
 pub row-numbers : (rs bs ps : List ℕ) → hostOk rs bs ps ≡ true → isEnrolled rs 64 ≡ false → isEnrolled rs 63 ≡ false → (rowRefusal rs bs ps 64 ≡ 2) × (rowRefusal rs bs ps 63 ≡ 6)
 unfolding rowRefusal
 row-numbers rs bs ps h e f = (rw h, rw (h, f))
@@ -127,7 +129,7 @@ net-is m = go (ltb (m .«open» .0 + m .bought .0) (m .sold .0))
         ap negsuc e
     go false = refl
 
--- "no "-0"": a net below 0 has a size
+-- "no "-0"": a net below 0 has a size (Lines and columns)
 pub below-sized : (m : Money) → (signedNet m) .below ≡ true → 1 ≤ (signedNet m) .size .0
 unfolding signedNet
 below-sized m b = go (ltb (m .«open» .0 + m .bought .0) (m .sold .0)) refl b

@@ -30,14 +30,14 @@ pub fn quota_due(class: u64, base: Millions) -> Millions
     Millions(counted)
 }
 
-// "flag: 1 above the threshold, else 0".
+// "flag: 1 above the threshold, else 0" (The eleven calls).
 pub fn flag_due(quota: Millions) -> u64
     ensures { λ r. ⌜ r ≡ flagDue quota ⌝ }
 {
     if Quota::THRESHOLD < quota.0 { 1 } else { 0 }
 }
 
-// "Undeclared, it equals the maximum."
+// "Undeclared, it equals the maximum." (Quotas)
 fn own_or(own: Limit, maximum: Millions) -> Limit
     ensures { λ r. ⌜ r ≡ ownQuota own maximum ⌝ }
 {
@@ -86,7 +86,7 @@ pub fn maximum_at_close(emergency: Emergency, regular: Limit) -> Limit
     }
 }
 
-// A filed withdrawal "takes effect at the close, when nobody holds it any longer".
+// A filed withdrawal "takes effect at the close, when nobody holds it any longer" (Quotas).
 pub fn emergency_at_close(emergency: Emergency) -> Emergency
     ensures { λ r. ⌜ r ≡ emergencyAtClose emergency ⌝ }
 {

@@ -18,8 +18,13 @@ digits-in-requires c κs = search needs
 
 returns : tie.Need-returns
 returns c =
-    let a = c .before .before .before .before .args in
-    plain-long (a .text .now) (a .at) (a .w) (c .before .before .blanks-at .result) (a .w - c .before .before .blanks-at .result) (c .before .before .before .before .pre) (c .before .before .blanks-at .ensures .0) (c .before .before .blanks-at .ensures .1) refl (c .digits-in .result) (c .before .if1 .taken) (c .digits-in .ensures ∙ digits-read (a .text .now) (a .at) (a .w) (c .before .before .before .before .pre))
+    let c1 = c .before in
+    let c2 = c1 .before in
+    let c4 = c2 .before .before in
+    let a = c4 .args in
+    plain-long (a .text .now) (a .at) (a .w) (c2 .blanks-at .result) (a .w - c2 .blanks-at .result) (c4 .pre) (c2 .blanks-at .ensures .0)
+    (c2 .blanks-at .ensures .1) refl (c .digits-in .result) (c1 .if1 .taken)
+    (c .digits-in .ensures ∙ digits-read (a .text .now) (a .at) (a .w) (c4 .pre))
 
 add-run-of-digits : tie.Need-add-run-of-digits
 add-run-of-digits c = search needs
@@ -35,8 +40,15 @@ leads-well-requires c κs = search needs
 
 returns-2 : tie.Need-returns-2
 returns-2 c =
-    let a = c .before .before .before .before .before .before .args in
-    plain-run (a .text .now) (a .at) (a .w) (c .before .before .before .before .blanks-at .result) (a .w - c .before .before .before .before .blanks-at .result) (c .before .before .before .before .before .before .pre) (c .before .before .before .before .blanks-at .ensures .0) (c .before .before .before .before .blanks-at .ensures .1) refl (c .before .leads-well .result) (c .before .before .run-of-digits .result .formed) (c .before .before .run-of-digits .result .number) (c .before .before .before .if1 .left) (c .before .leads-well .ensures) (c .before .before .run-of-digits .ensures .0) (c .before .before .run-of-digits .ensures .1)
+    let c1 = c .before in
+    let c2 = c1 .before in
+    let c3 = c2 .before in
+    let c4 = c3 .before in
+    let c6 = c4 .before .before in
+    let a = c6 .args in
+    plain-run (a .text .now) (a .at) (a .w) (c4 .blanks-at .result) (a .w - c4 .blanks-at .result) (c6 .pre) (c4 .blanks-at .ensures .0)
+    (c4 .blanks-at .ensures .1) refl (c1 .leads-well .result) (c2 .run-of-digits .result .formed) (c2 .run-of-digits .result .number)
+    (c3 .if1 .left) (c1 .leads-well .ensures) (c2 .run-of-digits .ensures .0) (c2 .run-of-digits .ensures .1)
 
 pub read-plain-spec : {M : Type 1} → statement M
 read-plain-spec =

@@ -53,9 +53,17 @@ loop-less c = search needs
 
 loop-again : tie.Need-loop-again Inv-loop μ-loop
 loop-again c =
-    let a = c .before .before .before .before .before .before .args in
-    let l = c .before .before .before .before .loop in
-    (omega arith, all-on (a .text .now) (a .at) (a .w) (l .i) (c .before .before .before .before .before .before .pre .0) (l .formed) (c .before .is-digit .result) (c .before .before .before .loop-test .taken) (l .inv .1) (c .before .is-digit .ensures), run-on (a .text .now) (a .at) (a .w) (l .i) (c .before .before .before .before .before .before .pre .0) (l .number) (c .digit .result) (c .before .before .before .before .before .before .pre .1) (c .before .before .before .loop-test .taken) (l .inv .2) (c .digit .ensures))
+    let c1 = c .before in
+    let c3 = c1 .before .before in
+    let c6 = c3 .before .before .before in
+    let a = c6 .args in
+    let l = c3 .before .loop in (
+      omega arith,
+      all-on (a .text .now) (a .at) (a .w) (l .i) (c6 .pre .0) (l .formed) (c1 .is-digit .result) (c3 .loop-test .taken) (l .inv .1)
+          (c1 .is-digit .ensures),
+      run-on (a .text .now) (a .at) (a .w) (l .i) (c6 .pre .0) (l .number) (c .digit .result) (c6 .pre .1) (c3 .loop-test .taken) (l .inv .2)
+          (c .digit .ensures),
+    )
 
 returns : tie.Need-returns Inv-loop μ-loop
 returns c =

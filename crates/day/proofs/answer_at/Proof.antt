@@ -36,7 +36,13 @@ same-length-4 : tie.Need-same-length-4
 same-length-4 c = search needs
 
 returns : tie.Need-returns
-returns c = (c .before .before .before .before .before .before .before .before .before .before .answer-line .ensures .1, c .before .before .put-printed .ensures ∙ ap (λ (x : Answer). paste (now (c .before .before .before .before .before .before .before .before .before .before .before .before .before .before .before .before .before .before .before .before .args .out)) (c .before .before .before .before .before .before .before .before .before .before .before .before .before .before .before .before .before .before .before .before .args .at) (printed x) 10) (c .before .before .before .before .before .before .before .before .before .before .answer-line .ensures .0))
+returns c =
+    let c2 = c .before .before in
+    let c10 = c2 .before .before .before .before .before .before .before .before in
+    let a = c10 .before .before .before .before .before .before .before .before .before .before .args in (
+      c10 .answer-line .ensures .1,
+      c2 .put-printed .ensures ∙ ap (λ (x : Answer). paste (now (a .out)) (a .at) (printed x) 10) (c10 .answer-line .ensures .0),
+    )
 
 pub answer-at-spec : {M : Type 1} → statement M
 answer-at-spec =

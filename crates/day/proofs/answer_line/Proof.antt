@@ -14,7 +14,14 @@ refused-by-requires : tie.Need-refused-by-requires
 refused-by-requires c κs = search needs
 
 returns : tie.Need-returns
-returns c = line-malformed (memory (now (c .before .before .before .before .before .before .before .before .args .register)) (now (c .before .before .before .before .before .before .before .before .args .book)) (now (c .before .before .before .before .before .before .before .before .args .places))) (now (c .before .before .before .before .before .before .before .before .args .line)) (c .before .before .before .read-line .result) (c .before .before .before .read-line .ensures) _ (not-true (c .before .before .before .read-line .result .formed) (c .before .if1 .taken)) (c .refused-by .ensures)
+returns c =
+    let c1 = c .before in
+    let c3 = c1 .before .before in
+    let a = c3 .before .before .before .before .before .args in
+    line-malformed (memory (now (a .register)) (now (a .book)) (now (a .places)))
+    (now (a .line)) (c3 .read-line .result) (c3 .read-line .ensures) _
+    (not-true (c3 .read-line .result .formed) (c1 .if1 .taken))
+    (c .refused-by .ensures)
 
 call-requires : tie.Need-call-requires
 call-requires c κs = search needs
@@ -29,7 +36,15 @@ same-length-3 : tie.Need-same-length-3
 same-length-3 c = search needs
 
 returns-2 : tie.Need-returns-2
-returns-2 c = line-called (memory (now (c .before .before .before .before .before .before .before .before .before .before .before .before .before .before .before .before .before .args .register)) (now (c .before .before .before .before .before .before .before .before .before .before .before .before .before .before .before .before .before .args .book)) (now (c .before .before .before .before .before .before .before .before .before .before .before .before .before .before .before .before .before .args .places))) (now (c .before .before .before .before .before .before .before .before .before .before .before .before .before .before .before .before .before .args .line)) (c .before .before .before .before .before .before .before .before .before .before .before .before .read-line .result) (c .before .before .before .before .before .before .before .before .before .before .before .before .read-line .ensures) _ _ (not-false (c .before .before .before .before .before .before .before .before .before .before .before .before .read-line .result .formed) (c .before .before .before .before .before .before .before .before .before .before .if1 .left)) (c .before .before .before .before .before .before .call .ensures .0) (c .before .before .before .before .before .before .call .ensures .1)
+returns-2 c =
+    let c6 = c .before .before .before .before .before .before in
+    let c10 = c6 .before .before .before .before in
+    let c12 = c10 .before .before in
+    let a = c12 .before .before .before .before .before .args in
+    line-called (memory (now (a .register)) (now (a .book)) (now (a .places)))
+    (now (a .line)) (c12 .read-line .result) (c12 .read-line .ensures) _ _
+    (not-false (c12 .read-line .result .formed) (c10 .if1 .left))
+    (c6 .call .ensures .0) (c6 .call .ensures .1)
 
 pub answer-line-spec : {M : Type 1} → statement M
 answer-line-spec =

@@ -39,7 +39,14 @@ same-length-4 : tie.Need-same-length-4 Inv-loop μ-loop
 same-length-4 c = search needs
 
 returns : tie.Need-returns Inv-loop μ-loop
-returns c = all-answered (memory (now (c .before .before .before .before .before .before .before .before .before .args .register)) (now (c .before .before .before .before .before .before .before .before .before .args .book)) (now (c .before .before .before .before .before .before .before .before .before .args .places))) (now (c .before .before .before .before .before .before .before .before .before .args .text)) (now (c .before .before .before .before .before .before .before .before .before .args .out)) (c .before .before .before .loop .k) (c .before .before .before .loop .i) _ _ (c .before .before .before .loop .inv .6) (reached-end (memory (now (c .before .before .before .before .before .before .before .before .before .args .register)) (now (c .before .before .before .before .before .before .before .before .before .args .book)) (now (c .before .before .before .before .before .before .before .before .before .args .places))) (now (c .before .before .before .before .before .before .before .before .before .args .text)) (now (c .before .before .before .before .before .before .before .before .before .args .out)) (c .before .before .before .loop .k) (c .before .before .before .loop .i) (c .before .line-end .result) _ _ (c .before .before .before .loop .inv .6) (c .before .line-end .ensures .0) (length (now (c .before .before .before .before .before .before .before .before .before .args .out)) / 10) (c .if1 .taken) (omega (arith, c .before .before .before .loop .inv .1)))
+returns c =
+    let c1 = c .before in
+    let a = c1 .before .before .before .before .before .before .before .before .args in
+    let l = c1 .before .before .loop in
+    let m = memory (now (a .register)) (now (a .book)) (now (a .places)) in
+    all-answered m (now (a .text)) (now (a .out)) (l .k) (l .i) _ _ (l .inv .6)
+    (reached-end m (now (a .text)) (now (a .out)) (l .k) (l .i) (c1 .line-end .result) _ _ (l .inv .6) (c1 .line-end .ensures .0)
+    (length (now (a .out)) / 10) (c .if1 .taken) (omega (arith, l .inv .1)))
 
 mul-answer-at : tie.Need-mul-answer-at Inv-loop μ-loop
 mul-answer-at c = search needs
@@ -57,7 +64,23 @@ loop-less : tie.Need-loop-less Inv-loop μ-loop
 loop-less c = search needs
 
 loop-again : tie.Need-loop-again Inv-loop μ-loop
-loop-again c = (omega arith, c .before .before .before .before .before .before .before .before .before .before .before .before .before .before .before .before .loop .inv .1, search needs, search needs, search needs, search needs, reached-on (memory (now (c .before .before .before .before .before .before .before .before .before .before .before .before .before .before .before .before .before .before .before .before .before .before .args .register)) (now (c .before .before .before .before .before .before .before .before .before .before .before .before .before .before .before .before .before .before .before .before .before .before .args .book)) (now (c .before .before .before .before .before .before .before .before .before .before .before .before .before .before .before .before .before .before .before .before .before .before .args .places))) (now (c .before .before .before .before .before .before .before .before .before .before .before .before .before .before .before .before .before .before .before .before .before .before .args .text)) (now (c .before .before .before .before .before .before .before .before .before .before .before .before .before .before .before .before .before .before .before .before .before .before .args .out)) (c .before .before .before .before .before .before .before .before .before .before .before .before .before .before .before .before .loop .k) (c .before .before .before .before .before .before .before .before .before .before .before .before .before .before .before .before .loop .i) (c .before .before .before .before .before .before .before .before .before .before .before .before .before .before .line-end .result) _ _ (c .before .before .before .before .before .before .before .before .before .before .before .before .before .before .before .before .loop .inv .6) (c .before .before .before .before .before .before .before .before .before .before .before .before .before .before .line-end .ensures .0) _ _ (omega (arith, c .before .before .before .before .before .before .before .before .before .before .before .before .before .before .line-end .ensures .1, c .before .before .before .before .before .before .before .before .before .before .before .before .before .if1 .left)) (omega (arith, c .before .before .before .before .before .before .before .before .before .before .before .before .before .before .before .before .loop .inv .1)) (c .before .before .before .before .before .before .before .before .answer-at .ensures .0) (c .before .before .before .before .before .before .before .before .answer-at .ensures .1))
+loop-again c =
+    let c8 = c .before .before .before .before .before .before .before .before in
+    let c13 = c8 .before .before .before .before .before in
+    let c14 = c13 .before in
+    let a = c14 .before .before .before .before .before .before .before .before .args in
+    let l = c14 .before .before .loop in (
+      omega arith,
+      l .inv .1,
+      search needs,
+      search needs,
+      search needs,
+      search needs,
+      reached-on (memory (now (a .register)) (now (a .book)) (now (a .places)))
+          (now (a .text)) (now (a .out)) (l .k) (l .i) (c14 .line-end .result) _ _ (l .inv .6) (c14 .line-end .ensures .0) _ _
+          (omega (arith, c14 .line-end .ensures .1, c13 .if1 .left))
+          (omega (arith, l .inv .1)) (c8 .answer-at .ensures .0) (c8 .answer-at .ensures .1),
+    )
 
 mul-t10 : tie.Need-mul-t10 Inv-loop μ-loop
 mul-t10 c = search needs
@@ -75,7 +98,12 @@ same-length-8 : tie.Need-same-length-8 Inv-loop μ-loop
 same-length-8 c = search needs
 
 returns-2 : tie.Need-returns-2 Inv-loop μ-loop
-returns-2 c = all-answered (memory (now (c .before .before .before .before .before .before .before .args .register)) (now (c .before .before .before .before .before .before .before .args .book)) (now (c .before .before .before .before .before .before .before .args .places))) (now (c .before .before .before .before .before .before .before .args .text)) (now (c .before .before .before .before .before .before .before .args .out)) (c .before .loop .k) (c .before .loop .i) _ _ (c .before .loop .inv .6) (ap (λ x. told x (memory (now (c .before .before .before .before .before .before .before .args .register)) (now (c .before .before .before .before .before .before .before .args .book)) (now (c .before .before .before .before .before .before .before .args .places))) (now (c .before .before .before .before .before .before .before .args .text))) (omega (arith, c .before .loop .inv .1)))
+returns-2 c =
+    let a = c .before .before .before .before .before .before .before .args in
+    let l = c .before .loop in
+    let m = memory (now (a .register)) (now (a .book)) (now (a .places)) in
+    all-answered m (now (a .text)) (now (a .out)) (l .k) (l .i) _ _ (l .inv .6)
+    (ap (λ x. told x m (now (a .text))) (omega (arith, l .inv .1)))
 
 pub answer-lines-spec : {M : Type 1} → statement M
 answer-lines-spec =

@@ -21,7 +21,13 @@ same-length : tie.Need-same-length
 same-length c = search needs
 
 returns-3 : tie.Need-returns-3
-returns-3 c = rest-printed (c .before .before .before .before .before .before .before .before .args .rest) (now (c .before .before .before .before .before .before .before .before .args .out)) _ _ (c .before .before .before .before .before .before .if1 .left) (c .before .before .before .before .before .if2 .left) (c .before .before .before .refused-by .ensures) (c .before .before .put-printed .ensures)
+returns-3 c =
+    let c2 = c .before .before in
+    let c3 = c2 .before in
+    let c5 = c3 .before .before in
+    let c6 = c5 .before in
+    let a = c6 .before .before .args in
+    rest-printed (a .rest) (now (a .out)) _ _ (c6 .if1 .left) (c5 .if2 .left) (c3 .refused-by .ensures) (c2 .put-printed .ensures)
 
 pub answer-rest-spec : {M : Type 1} → statement M
 answer-rest-spec =

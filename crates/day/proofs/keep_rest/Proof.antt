@@ -25,7 +25,12 @@ same-length : tie.Need-same-length
 same-length c = search needs
 
 returns-3 : tie.Need-returns-3
-returns-3 c = kept-some (c .before .before .before .before .before .before .before .before .args .used) (c .before .before .before .before .before .before .before .before .args .filled) (now (c .before .before .before .before .before .before .before .before .args .buffer)) (c .before .before .before .before .fewer .result) _ (c .before .before .before .before .before .before .if1 .left) (c .before .before .before .before .fewer .ensures) (c .before .before .move-down .ensures)
+returns-3 c =
+    let c2 = c .before .before in
+    let c4 = c2 .before .before in
+    let c6 = c4 .before .before in
+    let a = c6 .before .before .args in
+    kept-some (a .used) (a .filled) (now (a .buffer)) (c4 .fewer .result) _ (c6 .if1 .left) (c4 .fewer .ensures) (c2 .move-down .ensures)
 
 pub keep-rest-spec : {M : Type 1} → statement M
 keep-rest-spec =

@@ -18,7 +18,15 @@ same-length : tie.Need-same-length
 same-length c = search needs
 
 returns : tie.Need-returns
-returns c = printed-put (now (c .before .before .before .before .before .before .before .args .out)) (c .before .before .before .before .before .before .before .args .at) (c .before .before .before .before .before .before .before .args .answer) _ _ (c .before .before .before .before .before .before .before .pre) (held-is (c .before .before .before .before .before .before .before .args .answer) _ _ (c .before .before .before .before .before .smaller .ensures) (c .before .before .before .before .smaller2 .ensures)) (c .before .before .put-answer .ensures)
+returns c =
+    let c2 = c .before .before in
+    let c4 = c2 .before .before in
+    let c5 = c4 .before in
+    let c7 = c5 .before .before in
+    let a = c7 .args in
+    printed-put (now (a .out)) (a .at) (a .answer) _ _ (c7 .pre)
+    (held-is (a .answer) _ _ (c5 .smaller .ensures) (c4 .smaller2 .ensures))
+    (c2 .put-answer .ensures)
 
 pub put-printed-spec : {M : Type 1} → statement M
 put-printed-spec =

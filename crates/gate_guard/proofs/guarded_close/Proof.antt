@@ -18,7 +18,12 @@ same-length-2 : tie.Need-same-length-2
 same-length-2 c = search needs
 
 returns : tie.Need-returns
-returns c = close-unsound (now (c .before .before .before .before .before .before .before .before .args .register)) (now (c .before .before .before .before .before .before .before .before .args .book)) (now (c .before .before .before .before .before .before .before .before .args .places)) (c .before .before .book-sound .result) (c .before .before .book-sound .ensures) _ (c .before .if1 .taken) (c .refused-by .ensures)
+returns c =
+    let c1 = c .before in
+    let c2 = c1 .before in
+    let a = c2 .before .before .before .before .before .before .args in
+    close-unsound (now (a .register)) (now (a .book)) (now (a .places)) (c2 .book-sound .result) (c2 .book-sound .ensures) _
+    (c1 .if1 .taken) (c .refused-by .ensures)
 
 close-quotas-requires : tie.Need-close-quotas-requires
 close-quotas-requires c κs = search needs
@@ -33,7 +38,15 @@ same-length-4 : tie.Need-same-length-4
 same-length-4 c = search needs
 
 returns-2 : tie.Need-returns-2
-returns-2 c = close-refused (now (c .before .before .before .before .before .before .before .before .before .before .before .before .before .args .register)) (now (c .before .before .before .before .before .before .before .before .before .before .before .before .before .args .book)) (now (c .before .before .before .before .before .before .before .before .before .before .before .before .before .args .places)) (c .before .before .before .before .before .before .before .book-sound .result) (c .before .before .before .before .before .before .before .book-sound .ensures) _ (c .before .before .before .before .close-quotas .result) _ (c .before .before .before .before .before .before .if1 .left) (c .before .before .before .before .close-quotas .ensures .0) (c .before .if2 .taken) (c .refused-by2 .ensures) (c .before .before .before .before .close-quotas .ensures .1)
+returns-2 c =
+    let c1 = c .before in
+    let c4 = c1 .before .before .before in
+    let c6 = c4 .before .before in
+    let c7 = c6 .before in
+    let a = c7 .before .before .before .before .before .before .args in
+    close-refused (now (a .register)) (now (a .book)) (now (a .places)) (c7 .book-sound .result) (c7 .book-sound .ensures) _
+    (c4 .close-quotas .result) _ (c6 .if1 .left) (c4 .close-quotas .ensures .0) (c1 .if2 .taken) (c .refused-by2 .ensures)
+    (c4 .close-quotas .ensures .1)
 
 close-orders-requires : tie.Need-close-orders-requires
 close-orders-requires c κs = search needs
@@ -48,7 +61,16 @@ same-length-6 : tie.Need-same-length-6
 same-length-6 c = search needs
 
 returns-3 : tie.Need-returns-3
-returns-3 c = close-accepted (now (c .before .before .before .before .before .before .before .before .before .before .before .before .before .before .before .before .before .args .register)) (now (c .before .before .before .before .before .before .before .before .before .before .before .before .before .before .before .before .before .args .book)) (now (c .before .before .before .before .before .before .before .before .before .before .before .before .before .before .before .before .before .args .places)) (c .before .before .before .before .before .before .before .before .before .before .before .book-sound .result) (c .before .before .before .before .before .before .before .before .before .before .before .book-sound .ensures) _ (c .before .before .before .before .before .before .before .before .close-quotas .result) _ _ (c .before .before .before .before .before .before .before .before .before .before .if1 .left) (c .before .before .before .before .before .before .before .before .close-quotas .ensures .0) (c .before .before .before .before .before .if2 .left) (c .accepted-as .ensures) (c .before .before .before .before .before .before .before .before .close-quotas .ensures .1) (c .before .before .before .close-orders .ensures)
+returns-3 c =
+    let c3 = c .before .before .before in
+    let c5 = c3 .before .before in
+    let c8 = c5 .before .before .before in
+    let c10 = c8 .before .before in
+    let c11 = c10 .before in
+    let a = c11 .before .before .before .before .before .before .args in
+    close-accepted (now (a .register)) (now (a .book)) (now (a .places)) (c11 .book-sound .result) (c11 .book-sound .ensures) _
+    (c8 .close-quotas .result) _ _ (c10 .if1 .left) (c8 .close-quotas .ensures .0) (c5 .if2 .left) (c .accepted-as .ensures)
+    (c8 .close-quotas .ensures .1) (c3 .close-orders .ensures)
 
 pub guarded-close-spec : {M : Type 1} → statement M
 guarded-close-spec =

@@ -17,7 +17,15 @@ same-length : tie.Need-same-length
 same-length c = search needs
 
 returns : tie.Need-returns
-returns c = on-register-refused (now (c .before .before .before .before .before .before .before .args .register)) (now (c .before .before .before .before .before .before .before .args .book)) (now (c .before .before .before .before .before .before .before .args .places)) (c .before .before .book-sound .result) (c .before .before .book-sound .ensures) (answered (detachRefusal (now (c .before .before .before .before .before .before .before .args .register)) (c .before .before .before .before .before .before .before .args .unit))) (detachAfter (now (c .before .before .before .before .before .before .before .args .register)) (c .before .before .before .before .before .before .before .args .unit)) _ (c .before .if1 .taken) (c .refused-by .ensures)
+returns c =
+    let c1 = c .before in
+    let c2 = c1 .before in
+    let a = c2 .before .before .before .before .before .args in
+    let rs = now (a .register) in
+    let bs = now (a .book) in
+    let ps = now (a .places) in
+    on-register-refused rs bs ps (c2 .book-sound .result) (c2 .book-sound .ensures) (answered (detachRefusal rs (a .unit)))
+    (detachAfter rs (a .unit)) _ (c1 .if1 .taken) (c .refused-by .ensures)
 
 detach-requires : tie.Need-detach-requires
 detach-requires c κs = search needs
@@ -26,7 +34,16 @@ same-length-2 : tie.Need-same-length-2
 same-length-2 c = search needs
 
 returns-2 : tie.Need-returns-2
-returns-2 c = on-register-called (now (c .before .before .before .before .before .before .before .before .before .before .args .register)) (now (c .before .before .before .before .before .before .before .before .before .before .args .book)) (now (c .before .before .before .before .before .before .before .before .before .before .args .places)) (c .before .before .before .before .before .book-sound .result) (c .before .before .before .before .before .book-sound .ensures) (answered (detachRefusal (now (c .before .before .before .before .before .before .before .before .before .before .args .register)) (c .before .before .before .before .before .before .before .before .before .before .args .unit))) (detachAfter (now (c .before .before .before .before .before .before .before .before .before .before .args .register)) (c .before .before .before .before .before .before .before .before .before .before .args .unit)) _ _ (c .before .before .before .before .if1 .left) (c .before .before .detach .ensures .0) (c .before .before .detach .ensures .1)
+returns-2 c =
+    let c2 = c .before .before in
+    let c4 = c2 .before .before in
+    let c5 = c4 .before in
+    let a = c5 .before .before .before .before .before .args in
+    let rs = now (a .register) in
+    let bs = now (a .book) in
+    let ps = now (a .places) in
+    on-register-called rs bs ps (c5 .book-sound .result) (c5 .book-sound .ensures) (answered (detachRefusal rs (a .unit)))
+    (detachAfter rs (a .unit)) _ _ (c4 .if1 .left) (c2 .detach .ensures .0) (c2 .detach .ensures .1)
 
 pub guarded-detach-spec : {M : Type 1} → statement M
 guarded-detach-spec =

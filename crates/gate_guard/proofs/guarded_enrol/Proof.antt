@@ -18,7 +18,12 @@ same-length-2 : tie.Need-same-length-2
 same-length-2 c = search needs
 
 returns : tie.Need-returns
-returns c = enrol-unsound (now (c .before .before .before .before .before .before .before .before .args .register)) (now (c .before .before .before .before .before .before .before .before .args .book)) (now (c .before .before .before .before .before .before .before .before .args .places)) (c .before .before .book-sound .result) (c .before .before .book-sound .ensures) (c .before .before .before .before .before .before .before .before .args .code) (c .before .before .before .before .before .before .before .before .args .class) _ (c .before .if1 .taken) (c .refused-by .ensures)
+returns c =
+    let c1 = c .before in
+    let c2 = c1 .before in
+    let a = c2 .before .before .before .before .before .before .args in
+    enrol-unsound (now (a .register)) (now (a .book)) (now (a .places)) (c2 .book-sound .result) (c2 .book-sound .ensures) (a .code)
+    (a .class) _ (c1 .if1 .taken) (c .refused-by .ensures)
 
 groups-enrolled-requires : tie.Need-groups-enrolled-requires
 groups-enrolled-requires c κs = search needs
@@ -33,7 +38,13 @@ same-length-4 : tie.Need-same-length-4
 same-length-4 c = search needs
 
 returns-2 : tie.Need-returns-2
-returns-2 c = enrol-refused (now (c .before .before .before .before .before .before .before .before .before .before .before .before .before .before .before .args .register)) (now (c .before .before .before .before .before .before .before .before .before .before .before .before .before .before .before .args .book)) (now (c .before .before .before .before .before .before .before .before .before .before .before .before .before .before .before .args .places)) (c .before .before .before .before .before .before .before .before .before .book-sound .result) (c .before .before .before .before .before .before .before .before .before .book-sound .ensures) (c .before .before .before .before .before .before .before .before .before .before .before .before .before .before .before .args .code) (c .before .before .before .before .before .before .before .before .before .before .before .before .before .before .before .args .class) _ _ (c .before .before .before .before .before .before .before .before .if1 .left) (c .before .before .before .before .enrol .ensures .0) (c .if2 .taken) (c .before .before .before .before .enrol .ensures .1)
+returns-2 c =
+    let c4 = c .before .before .before .before in
+    let c8 = c4 .before .before .before .before in
+    let c9 = c8 .before in
+    let a = c9 .before .before .before .before .before .before .args in
+    enrol-refused (now (a .register)) (now (a .book)) (now (a .places)) (c9 .book-sound .result) (c9 .book-sound .ensures) (a .code)
+    (a .class) _ _ (c8 .if1 .left) (c4 .enrol .ensures .0) (c .if2 .taken) (c4 .enrol .ensures .1)
 
 clear-money-requires : tie.Need-clear-money-requires
 clear-money-requires c κs = search needs
@@ -45,7 +56,17 @@ same-length-6 : tie.Need-same-length-6
 same-length-6 c = search needs
 
 returns-3 : tie.Need-returns-3
-returns-3 c = enrol-accepted (now (c .before .before .before .before .before .before .before .before .before .before .before .before .before .before .before .before .before .before .before .args .register)) (now (c .before .before .before .before .before .before .before .before .before .before .before .before .before .before .before .before .before .before .before .args .book)) (now (c .before .before .before .before .before .before .before .before .before .before .before .before .before .before .before .before .before .before .before .args .places)) (c .before .before .before .before .before .before .before .before .before .before .before .before .before .book-sound .result) (c .before .before .before .before .before .before .before .before .before .before .before .before .before .book-sound .ensures) (c .before .before .before .before .before .before .before .before .before .before .before .before .before .before .before .before .before .before .before .args .code) (c .before .before .before .before .before .before .before .before .before .before .before .before .before .before .before .before .before .before .before .args .class) _ _ _ _ (c .before .before .before .before .before .before .before .before .before .before .before .before .if1 .left) (c .before .before .before .before .before .before .before .before .enrol .ensures .0) (c .before .before .before .before .if2 .left) (c .before .before .before .before .before .before .before .before .enrol .ensures .1) (c .before .before .before .before .before .before .before .before .before .before .groups-enrolled .ensures) (c .before .before .clear-money .ensures)
+returns-3 c =
+    let c2 = c .before .before in
+    let c4 = c2 .before .before in
+    let c8 = c4 .before .before .before .before in
+    let c10 = c8 .before .before in
+    let c12 = c10 .before .before in
+    let c13 = c12 .before in
+    let a = c13 .before .before .before .before .before .before .args in
+    enrol-accepted (now (a .register)) (now (a .book)) (now (a .places)) (c13 .book-sound .result) (c13 .book-sound .ensures) (a .code)
+    (a .class) _ _ _ _ (c12 .if1 .left) (c8 .enrol .ensures .0) (c4 .if2 .left) (c8 .enrol .ensures .1) (c10 .groups-enrolled .ensures)
+    (c2 .clear-money .ensures)
 
 pub guarded-enrol-spec : {M : Type 1} → statement M
 guarded-enrol-spec =

@@ -17,7 +17,16 @@ same-length : tie.Need-same-length
 same-length c = search needs
 
 returns : tie.Need-returns
-returns c = on-register-refused (now (c .before .before .before .before .before .before .before .args .register)) (now (c .before .before .before .before .before .before .before .args .book)) (now (c .before .before .before .before .before .before .before .args .places)) (c .before .before .book-sound .result) (c .before .before .book-sound .ensures) (answered (ownQuotaRefusal (now (c .before .before .before .before .before .before .before .args .register)) (c .before .before .before .before .before .before .before .args .group) (c .before .before .before .before .before .before .before .args .quota))) (ownQuotaAfter (now (c .before .before .before .before .before .before .before .args .register)) (c .before .before .before .before .before .before .before .args .group) (c .before .before .before .before .before .before .before .args .quota)) _ (c .before .if1 .taken) (c .refused-by .ensures)
+returns c =
+    let c1 = c .before in
+    let c2 = c1 .before in
+    let a = c2 .before .before .before .before .before .args in
+    let rs = now (a .register) in
+    let bs = now (a .book) in
+    let ps = now (a .places) in
+    on-register-refused rs bs ps (c2 .book-sound .result) (c2 .book-sound .ensures)
+    (answered (ownQuotaRefusal rs (a .group) (a .quota)))
+    (ownQuotaAfter rs (a .group) (a .quota)) _ (c1 .if1 .taken) (c .refused-by .ensures)
 
 own-quota-requires : tie.Need-own-quota-requires
 own-quota-requires c κs = search needs
@@ -26,7 +35,17 @@ same-length-2 : tie.Need-same-length-2
 same-length-2 c = search needs
 
 returns-2 : tie.Need-returns-2
-returns-2 c = on-register-called (now (c .before .before .before .before .before .before .before .before .before .before .args .register)) (now (c .before .before .before .before .before .before .before .before .before .before .args .book)) (now (c .before .before .before .before .before .before .before .before .before .before .args .places)) (c .before .before .before .before .before .book-sound .result) (c .before .before .before .before .before .book-sound .ensures) (answered (ownQuotaRefusal (now (c .before .before .before .before .before .before .before .before .before .before .args .register)) (c .before .before .before .before .before .before .before .before .before .before .args .group) (c .before .before .before .before .before .before .before .before .before .before .args .quota))) (ownQuotaAfter (now (c .before .before .before .before .before .before .before .before .before .before .args .register)) (c .before .before .before .before .before .before .before .before .before .before .args .group) (c .before .before .before .before .before .before .before .before .before .before .args .quota)) _ _ (c .before .before .before .before .if1 .left) (c .before .before .own-quota .ensures .0) (c .before .before .own-quota .ensures .1)
+returns-2 c =
+    let c2 = c .before .before in
+    let c4 = c2 .before .before in
+    let c5 = c4 .before in
+    let a = c5 .before .before .before .before .before .args in
+    let rs = now (a .register) in
+    let bs = now (a .book) in
+    let ps = now (a .places) in
+    on-register-called rs bs ps (c5 .book-sound .result) (c5 .book-sound .ensures)
+    (answered (ownQuotaRefusal rs (a .group) (a .quota)))
+    (ownQuotaAfter rs (a .group) (a .quota)) _ _ (c4 .if1 .left) (c2 .own-quota .ensures .0) (c2 .own-quota .ensures .1)
 
 pub guarded-own-quota-spec : {M : Type 1} → statement M
 guarded-own-quota-spec =

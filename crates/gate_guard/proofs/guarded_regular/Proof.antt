@@ -17,7 +17,17 @@ same-length : tie.Need-same-length
 same-length c = search needs
 
 returns : tie.Need-returns
-returns c = on-register-refused (now (c .before .before .before .before .before .before .before .args .register)) (now (c .before .before .before .before .before .before .before .args .book)) (now (c .before .before .before .before .before .before .before .args .places)) (c .before .before .book-sound .result) (c .before .before .book-sound .ensures) (answered (regularRefusal (now (c .before .before .before .before .before .before .before .args .register)) (c .before .before .before .before .before .before .before .args .declarer) (c .before .before .before .before .before .before .before .args .group) (c .before .before .before .before .before .before .before .args .base) (c .before .before .before .before .before .before .before .args .quota))) (regularAfter (now (c .before .before .before .before .before .before .before .args .register)) (c .before .before .before .before .before .before .before .args .declarer) (c .before .before .before .before .before .before .before .args .group) (c .before .before .before .before .before .before .before .args .base) (c .before .before .before .before .before .before .before .args .quota)) _ (c .before .if1 .taken) (c .refused-by .ensures)
+returns c =
+    let c1 = c .before in
+    let c2 = c1 .before in
+    let a = c2 .before .before .before .before .before .args in
+    let rs = now (a .register) in
+    let bs = now (a .book) in
+    let ps = now (a .places) in
+    on-register-refused rs bs ps (c2 .book-sound .result) (c2 .book-sound .ensures)
+    (answered (regularRefusal rs (a .declarer) (a .group) (a .base) (a .quota)))
+    (regularAfter rs (a .declarer) (a .group) (a .base) (a .quota)) _
+    (c1 .if1 .taken) (c .refused-by .ensures)
 
 regular-requires : tie.Need-regular-requires
 regular-requires c κs = search needs
@@ -26,7 +36,18 @@ same-length-2 : tie.Need-same-length-2
 same-length-2 c = search needs
 
 returns-2 : tie.Need-returns-2
-returns-2 c = on-register-called (now (c .before .before .before .before .before .before .before .before .before .before .args .register)) (now (c .before .before .before .before .before .before .before .before .before .before .args .book)) (now (c .before .before .before .before .before .before .before .before .before .before .args .places)) (c .before .before .before .before .before .book-sound .result) (c .before .before .before .before .before .book-sound .ensures) (answered (regularRefusal (now (c .before .before .before .before .before .before .before .before .before .before .args .register)) (c .before .before .before .before .before .before .before .before .before .before .args .declarer) (c .before .before .before .before .before .before .before .before .before .before .args .group) (c .before .before .before .before .before .before .before .before .before .before .args .base) (c .before .before .before .before .before .before .before .before .before .before .args .quota))) (regularAfter (now (c .before .before .before .before .before .before .before .before .before .before .args .register)) (c .before .before .before .before .before .before .before .before .before .before .args .declarer) (c .before .before .before .before .before .before .before .before .before .before .args .group) (c .before .before .before .before .before .before .before .before .before .before .args .base) (c .before .before .before .before .before .before .before .before .before .before .args .quota)) _ _ (c .before .before .before .before .if1 .left) (c .before .before .regular .ensures .0) (c .before .before .regular .ensures .1)
+returns-2 c =
+    let c2 = c .before .before in
+    let c4 = c2 .before .before in
+    let c5 = c4 .before in
+    let a = c5 .before .before .before .before .before .args in
+    let rs = now (a .register) in
+    let bs = now (a .book) in
+    let ps = now (a .places) in
+    on-register-called rs bs ps (c5 .book-sound .result) (c5 .book-sound .ensures)
+    (answered (regularRefusal rs (a .declarer) (a .group) (a .base) (a .quota)))
+    (regularAfter rs (a .declarer) (a .group) (a .base) (a .quota)) _ _
+    (c4 .if1 .left) (c2 .regular .ensures .0) (c2 .regular .ensures .1)
 
 pub guarded-regular-spec : {M : Type 1} → statement M
 guarded-regular-spec =

@@ -17,7 +17,16 @@ same-length : tie.Need-same-length
 same-length c = search needs
 
 returns : tie.Need-returns
-returns c = on-register-refused (now (c .before .before .before .before .before .before .before .args .register)) (now (c .before .before .before .before .before .before .before .args .book)) (now (c .before .before .before .before .before .before .before .args .places)) (c .before .before .book-sound .result) (c .before .before .book-sound .ensures) (answered (withdrawRefusal (now (c .before .before .before .before .before .before .before .args .register)) (c .before .before .before .before .before .before .before .args .declarer) (c .before .before .before .before .before .before .before .args .group))) (withdrawAfter (now (c .before .before .before .before .before .before .before .args .register)) (c .before .before .before .before .before .before .before .args .declarer) (c .before .before .before .before .before .before .before .args .group)) _ (c .before .if1 .taken) (c .refused-by .ensures)
+returns c =
+    let c1 = c .before in
+    let c2 = c1 .before in
+    let a = c2 .before .before .before .before .before .args in
+    let rs = now (a .register) in
+    let bs = now (a .book) in
+    let ps = now (a .places) in
+    on-register-refused rs bs ps (c2 .book-sound .result) (c2 .book-sound .ensures)
+    (answered (withdrawRefusal rs (a .declarer) (a .group)))
+    (withdrawAfter rs (a .declarer) (a .group)) _ (c1 .if1 .taken) (c .refused-by .ensures)
 
 withdraw-requires : tie.Need-withdraw-requires
 withdraw-requires c κs = search needs
@@ -26,7 +35,17 @@ same-length-2 : tie.Need-same-length-2
 same-length-2 c = search needs
 
 returns-2 : tie.Need-returns-2
-returns-2 c = on-register-called (now (c .before .before .before .before .before .before .before .before .before .before .args .register)) (now (c .before .before .before .before .before .before .before .before .before .before .args .book)) (now (c .before .before .before .before .before .before .before .before .before .before .args .places)) (c .before .before .before .before .before .book-sound .result) (c .before .before .before .before .before .book-sound .ensures) (answered (withdrawRefusal (now (c .before .before .before .before .before .before .before .before .before .before .args .register)) (c .before .before .before .before .before .before .before .before .before .before .args .declarer) (c .before .before .before .before .before .before .before .before .before .before .args .group))) (withdrawAfter (now (c .before .before .before .before .before .before .before .before .before .before .args .register)) (c .before .before .before .before .before .before .before .before .before .before .args .declarer) (c .before .before .before .before .before .before .before .before .before .before .args .group)) _ _ (c .before .before .before .before .if1 .left) (c .before .before .withdraw .ensures .0) (c .before .before .withdraw .ensures .1)
+returns-2 c =
+    let c2 = c .before .before in
+    let c4 = c2 .before .before in
+    let c5 = c4 .before in
+    let a = c5 .before .before .before .before .before .args in
+    let rs = now (a .register) in
+    let bs = now (a .book) in
+    let ps = now (a .places) in
+    on-register-called rs bs ps (c5 .book-sound .result) (c5 .book-sound .ensures)
+    (answered (withdrawRefusal rs (a .declarer) (a .group)))
+    (withdrawAfter rs (a .declarer) (a .group)) _ _ (c4 .if1 .left) (c2 .withdraw .ensures .0) (c2 .withdraw .ensures .1)
 
 pub guarded-withdraw-spec : {M : Type 1} → statement M
 guarded-withdraw-spec =

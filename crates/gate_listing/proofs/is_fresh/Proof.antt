@@ -23,7 +23,13 @@ row-at-requires : tie.Need-row-at-requires Inv-loop μ-loop
 row-at-requires c κs = search needs
 
 returns : tie.Need-returns Inv-loop μ-loop
-returns c = sym (fresh-fail (now (c .before .before .before .before .before .before .before .before .before .before .before .args .register)) (now (c .before .before .before .before .before .before .before .before .before .before .before .args .book)) (c .before .before .before .before .before .before .before .before .before .before .before .args .row) _ (c .before .before .before .before .before .before .before .before .loop .i) (c .before .before .before .before .before .before .before .before .before .before .before .args .n) (c .before .before .before .before .before .before .before .before .loop .inv .1) (c .before .before .before .before .before .before .before .loop-test .taken) (key-is (c .before .before .before .before .before .before .before .before .before .before .before .args .row) _ (c .before .before .before .before .before .before .row-at .result) _ (c .before .before .before .before .before .before .row-at .ensures) (c .if1 .taken)))
+returns c =
+    let c6 = c .before .before .before .before .before .before in
+    let c7 = c6 .before in
+    let a = c7 .before .before .before .before .args in
+    let l = c7 .before .loop in
+    sym (fresh-fail (now (a .register)) (now (a .book)) (a .row) _ (l .i) (a .n) (l .inv .1) (c7 .loop-test .taken)
+    (key-is (a .row) _ (c6 .row-at .result) _ (c6 .row-at .ensures) (c .if1 .taken)))
 
 add-i : tie.Need-add-i Inv-loop μ-loop
 add-i c = search needs
@@ -32,7 +38,15 @@ loop-less : tie.Need-loop-less Inv-loop μ-loop
 loop-less c = search needs
 
 loop-again : tie.Need-loop-again Inv-loop μ-loop
-loop-again c = (omega arith, fresh-step (now (c .before .before .before .before .before .before .before .before .before .before .before .args .register)) (now (c .before .before .before .before .before .before .before .before .before .before .before .args .book)) (c .before .before .before .before .before .before .before .before .before .before .before .args .row) _ (c .before .before .before .before .before .before .before .before .loop .i) (c .before .before .before .before .before .before .before .before .before .before .before .args .n) (c .before .before .before .before .before .before .before .before .loop .inv .1) (c .before .before .before .before .before .before .before .loop-test .taken) (key-is (c .before .before .before .before .before .before .before .before .before .before .before .args .row) _ (c .before .before .before .before .before .before .row-at .result) _ (c .before .before .before .before .before .before .row-at .ensures) (c .if1 .left)))
+loop-again c =
+    let c6 = c .before .before .before .before .before .before in
+    let c7 = c6 .before in
+    let a = c7 .before .before .before .before .args in
+    let l = c7 .before .loop in (
+      omega arith,
+      fresh-step (now (a .register)) (now (a .book)) (a .row) _ (l .i) (a .n) (l .inv .1) (c7 .loop-test .taken)
+          (key-is (a .row) _ (c6 .row-at .result) _ (c6 .row-at .ensures) (c .if1 .left)),
+    )
 
 returns-2 : tie.Need-returns-2 Inv-loop μ-loop
 returns-2 c = sym (fresh-end (now (c .before .before .before .before .args .register)) (now (c .before .before .before .before .args .book)) (c .before .before .before .before .args .row) _ (c .before .loop .i) (c .before .before .before .before .args .n) (c .before .loop .inv .1) (c .loop-test .left))

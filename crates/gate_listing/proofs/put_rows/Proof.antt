@@ -38,7 +38,20 @@ loop-less : tie.Need-loop-less Inv-loop μ-loop
 loop-less c = search needs
 
 loop-again : tie.Need-loop-again Inv-loop μ-loop
-loop-again c = (omega arith, search needs, put-step (now (c .before .before .before .before .before .before .before .before .before .before .before .args .register)) (now (c .before .before .before .before .before .before .before .before .before .before .before .args .book)) (now (c .before .before .before .before .before .before .before .before .before .before .before .args .buffer)) (c .before .before .before .before .before .before .before .loop .buffer) _ (c .before .before .before .before .before .before .before .loop .i) (c .before .before .before .before .before .before .before .before .before .before .before .args .n) (c .before .before .before .before .before .row-at .result .row) (c .before .before .before .before .before .before .loop-test .taken) (c .before .before .before .before .before .before .before .before .before .before .before .pre .0) (c .before .before .before .before .before .before .before .before .before .before .before .pre .1) (ap (λ (x : RowRead). x .row) (c .before .before .before .before .before .row-at .ensures)) (c .before .before .before .before .before .before .before .loop .inv .2) (c .before .before .put-row .ensures))
+loop-again c =
+    let c2 = c .before .before in
+    let c5 = c2 .before .before .before in
+    let c6 = c5 .before in
+    let c11 = c6 .before .before .before .before .before in
+    let a = c11 .args in
+    let l = c6 .before .loop in (
+      omega arith,
+      search needs,
+      put-step (now (a .register)) (now (a .book)) (now (a .buffer)) (l .buffer) _ (l .i) (a .n) (c5 .row-at .result .row)
+          (c6 .loop-test .taken) (c11 .pre .0) (c11 .pre .1)
+          (ap (λ (x : RowRead). x .row) (c5 .row-at .ensures))
+          (l .inv .2) (c2 .put-row .ensures),
+    )
 
 same-length : tie.Need-same-length Inv-loop μ-loop
 same-length c = search needs

@@ -20,19 +20,81 @@ groups-enrolled-requires : tie.Need-groups-enrolled-requires
 groups-enrolled-requires c κs = search needs
 
 rows-kept-requires : tie.Need-rows-kept-requires
-rows-kept-requires c κs = omega (arith, c .groups-enrolled .ensures, enrolled-most (now (c .before .before .before .before .before .before .args .register)) (now (c .before .before .before .before .before .before .args .book)) (now (c .before .before .before .before .before .before .args .places)) (c .before .before .before .before .before .before .args .room) (sym (c .before .before .host-ok .ensures) ∙ not-false (c .before .before .host-ok .result) (c .before .if1 .left)))
+rows-kept-requires c κs =
+    let c1 = c .before in
+    let c2 = c1 .before in
+    let a = c2 .before .before .before .before .args in
+    omega (
+      arith,
+      c .groups-enrolled .ensures,
+      enrolled-most (now (a .register)) (now (a .book)) (now (a .places)) (a .room)
+          (sym (c2 .host-ok .ensures) ∙ not-false (c2 .host-ok .result) (c1 .if1 .left)),
+    )
 
 returns-2 : tie.Need-returns-2
-returns-2 c = list-broken (now (c .before .before .before .before .before .before .before .before .args .register)) (now (c .before .before .before .before .before .before .before .before .args .book)) (now (c .before .before .before .before .before .before .before .before .args .places)) (c .before .before .before .before .before .before .before .before .args .room) (sym (c .before .before .before .before .host-ok .ensures) ∙ not-false (c .before .before .before .before .host-ok .result) (c .before .before .before .if1 .left)) (c .before .rows-kept .result) (counted (now (c .before .before .before .before .before .before .before .before .args .register)) (now (c .before .before .before .before .before .before .before .before .args .book)) (c .before .before .groups-enrolled .result) (c .before .rows-kept .result) (c .before .before .groups-enrolled .ensures) (c .before .rows-kept .ensures)) (not-true (c .before .rows-kept .result) (c .if2 .taken))
+returns-2 c =
+    let c1 = c .before in
+    let c2 = c1 .before in
+    let c3 = c2 .before in
+    let c4 = c3 .before in
+    let a = c4 .before .before .before .before .args in
+    let rs = now (a .register) in
+    let bs = now (a .book) in
+    let ps = now (a .places) in
+    list-broken rs bs ps (a .room)
+    (sym (c4 .host-ok .ensures) ∙ not-false (c4 .host-ok .result) (c3 .if1 .left))
+    (c1 .rows-kept .result)
+    (counted rs bs (c2 .groups-enrolled .result) (c1 .rows-kept .result) (c2 .groups-enrolled .ensures) (c1 .rows-kept .ensures))
+    (not-true (c1 .rows-kept .result) (c .if2 .taken))
 
 mul-if3 : tie.Need-mul-if3
-mul-if3 c = omega (arith, c .before .before .groups-enrolled .ensures, enrolled-most (now (c .before .before .before .before .before .before .before .before .args .register)) (now (c .before .before .before .before .before .before .before .before .args .book)) (now (c .before .before .before .before .before .before .before .before .args .places)) (c .before .before .before .before .before .before .before .before .args .room) (sym (c .before .before .before .before .host-ok .ensures) ∙ not-false (c .before .before .before .before .host-ok .result) (c .before .before .before .if1 .left)))
+mul-if3 c =
+    let c2 = c .before .before in
+    let c3 = c2 .before in
+    let c4 = c3 .before in
+    let a = c4 .before .before .before .before .args in
+    omega (
+      arith,
+      c2 .groups-enrolled .ensures,
+      enrolled-most (now (a .register)) (now (a .book)) (now (a .places)) (a .room)
+          (sym (c4 .host-ok .ensures) ∙ not-false (c4 .host-ok .result) (c3 .if1 .left)),
+    )
 
 returns-3 : tie.Need-returns-3
-returns-3 c = list-short (now (c .before .before .before .before .before .before .before .before .before .args .register)) (now (c .before .before .before .before .before .before .before .before .before .args .book)) (now (c .before .before .before .before .before .before .before .before .before .args .places)) (c .before .before .before .before .before .before .before .before .before .args .room) (sym (c .before .before .before .before .before .host-ok .ensures) ∙ not-false (c .before .before .before .before .before .host-ok .result) (c .before .before .before .before .if1 .left)) (c .before .before .rows-kept .result) (counted (now (c .before .before .before .before .before .before .before .before .before .args .register)) (now (c .before .before .before .before .before .before .before .before .before .args .book)) (c .before .before .before .groups-enrolled .result) (c .before .before .rows-kept .result) (c .before .before .before .groups-enrolled .ensures) (c .before .before .rows-kept .ensures)) (not-false (c .before .before .rows-kept .result) (c .before .if2 .left)) (omega (arith, c .before .before .before .groups-enrolled .ensures, c .if3 .taken))
+returns-3 c =
+    let c1 = c .before in
+    let c2 = c1 .before in
+    let c3 = c2 .before in
+    let c4 = c3 .before in
+    let c5 = c4 .before in
+    let a = c5 .before .before .before .before .args in
+    let rs = now (a .register) in
+    let bs = now (a .book) in
+    let ps = now (a .places) in
+    list-short rs bs ps (a .room)
+    (sym (c5 .host-ok .ensures) ∙ not-false (c5 .host-ok .result) (c4 .if1 .left))
+    (c2 .rows-kept .result)
+    (counted rs bs (c3 .groups-enrolled .result) (c2 .rows-kept .result) (c3 .groups-enrolled .ensures) (c2 .rows-kept .ensures))
+    (not-false (c2 .rows-kept .result) (c1 .if2 .left))
+    (omega (arith, c3 .groups-enrolled .ensures, c .if3 .taken))
 
 returns-4 : tie.Need-returns-4
-returns-4 c = list-clear (now (c .before .before .before .before .before .before .before .before .before .args .register)) (now (c .before .before .before .before .before .before .before .before .before .args .book)) (now (c .before .before .before .before .before .before .before .before .before .args .places)) (c .before .before .before .before .before .before .before .before .before .args .room) (sym (c .before .before .before .before .before .host-ok .ensures) ∙ not-false (c .before .before .before .before .before .host-ok .result) (c .before .before .before .before .if1 .left)) (c .before .before .rows-kept .result) (counted (now (c .before .before .before .before .before .before .before .before .before .args .register)) (now (c .before .before .before .before .before .before .before .before .before .args .book)) (c .before .before .before .groups-enrolled .result) (c .before .before .rows-kept .result) (c .before .before .before .groups-enrolled .ensures) (c .before .before .rows-kept .ensures)) (not-false (c .before .before .rows-kept .result) (c .before .if2 .left)) (omega (arith, c .before .before .before .groups-enrolled .ensures, c .if3 .left))
+returns-4 c =
+    let c1 = c .before in
+    let c2 = c1 .before in
+    let c3 = c2 .before in
+    let c4 = c3 .before in
+    let c5 = c4 .before in
+    let a = c5 .before .before .before .before .args in
+    let rs = now (a .register) in
+    let bs = now (a .book) in
+    let ps = now (a .places) in
+    list-clear rs bs ps (a .room)
+    (sym (c5 .host-ok .ensures) ∙ not-false (c5 .host-ok .result) (c4 .if1 .left))
+    (c2 .rows-kept .result)
+    (counted rs bs (c3 .groups-enrolled .result) (c2 .rows-kept .result) (c3 .groups-enrolled .ensures) (c2 .rows-kept .ensures))
+    (not-false (c2 .rows-kept .result) (c1 .if2 .left))
+    (omega (arith, c3 .groups-enrolled .ensures, c .if3 .left))
 
 pub refusal-of-listing-spec : {M : Type 1} → statement M
 refusal-of-listing-spec =

@@ -28,7 +28,15 @@ row-kept-requires : tie.Need-row-kept-requires Inv-loop μ-loop
 row-kept-requires c κs = search needs
 
 returns : tie.Need-returns Inv-loop μ-loop
-returns c = sym (kept-broken (now (c .before .before .before .before .before .before .before .before .args .register)) (now (c .before .before .before .before .before .before .before .before .args .book)) _ (c .before .before .before .before .before .loop .i) (c .before .before .before .before .before .before .before .before .args .n) (c .before .before .before .before .before .loop .inv .1) (c .before .before .before .before .loop-test .taken) (kept-is _ (c .before .before .before .row-at .result) _ (c .before .row-kept .result) (c .before .before .before .row-at .ensures) (c .before .row-kept .ensures) (not-true (c .before .row-kept .result) (c .if1 .taken))))
+returns c =
+    let c1 = c .before in
+    let c3 = c1 .before .before in
+    let c4 = c3 .before in
+    let a = c4 .before .before .before .before .args in
+    let l = c4 .before .loop in
+    sym (kept-broken (now (a .register)) (now (a .book)) _ (l .i) (a .n) (l .inv .1) (c4 .loop-test .taken)
+    (kept-is _ (c3 .row-at .result) _ (c1 .row-kept .result) (c3 .row-at .ensures) (c1 .row-kept .ensures)
+    (not-true (c1 .row-kept .result) (c .if1 .taken))))
 
 add-is-fresh : tie.Need-add-is-fresh Inv-loop μ-loop
 add-is-fresh c = search needs
@@ -37,7 +45,19 @@ is-fresh-requires : tie.Need-is-fresh-requires Inv-loop μ-loop
 is-fresh-requires c κs = (omega arith, c .before .before .before .before .before .before .before .before .pre)
 
 returns-2 : tie.Need-returns-2 Inv-loop μ-loop
-returns-2 c = sym (kept-repeated (now (c .before .before .before .before .before .before .before .before .before .before .args .register)) (now (c .before .before .before .before .before .before .before .before .before .before .args .book)) _ (c .before .before .before .before .before .before .before .loop .i) (c .before .before .before .before .before .before .before .before .before .before .args .n) (c .before .before .before .before .before .before .before .loop .inv .1) (c .before .before .before .before .before .before .loop-test .taken) (kept-is _ (c .before .before .before .before .before .row-at .result) _ (c .before .before .before .row-kept .result) (c .before .before .before .before .before .row-at .ensures) (c .before .before .before .row-kept .ensures) (not-false (c .before .before .before .row-kept .result) (c .before .before .if1 .left))) (fresh-is _ _ (c .before .before .before .before .before .row-at .result) _ (c .before .is-fresh .result) (c .before .before .before .before .before .row-at .ensures) (c .before .is-fresh .ensures) (not-true (c .before .is-fresh .result) (c .if2 .taken))))
+returns-2 c =
+    let c1 = c .before in
+    let c2 = c1 .before in
+    let c3 = c2 .before in
+    let c5 = c3 .before .before in
+    let c6 = c5 .before in
+    let a = c6 .before .before .before .before .args in
+    let l = c6 .before .loop in
+    sym (kept-repeated (now (a .register)) (now (a .book)) _ (l .i) (a .n) (l .inv .1) (c6 .loop-test .taken)
+    (kept-is _ (c5 .row-at .result) _ (c3 .row-kept .result) (c5 .row-at .ensures) (c3 .row-kept .ensures)
+    (not-false (c3 .row-kept .result) (c2 .if1 .left)))
+    (fresh-is _ _ (c5 .row-at .result) _ (c1 .is-fresh .result) (c5 .row-at .ensures) (c1 .is-fresh .ensures)
+    (not-true (c1 .is-fresh .result) (c .if2 .taken))))
 
 add-i : tie.Need-add-i Inv-loop μ-loop
 add-i c = search needs
@@ -46,7 +66,21 @@ loop-less : tie.Need-loop-less Inv-loop μ-loop
 loop-less c = search needs
 
 loop-again : tie.Need-loop-again Inv-loop μ-loop
-loop-again c = (omega arith, kept-step (now (c .before .before .before .before .before .before .before .before .before .before .args .register)) (now (c .before .before .before .before .before .before .before .before .before .before .args .book)) _ (c .before .before .before .before .before .before .before .loop .i) (c .before .before .before .before .before .before .before .before .before .before .args .n) (c .before .before .before .before .before .before .before .loop .inv .1) (c .before .before .before .before .before .before .loop-test .taken) (kept-is _ (c .before .before .before .before .before .row-at .result) _ (c .before .before .before .row-kept .result) (c .before .before .before .before .before .row-at .ensures) (c .before .before .before .row-kept .ensures) (not-false (c .before .before .before .row-kept .result) (c .before .before .if1 .left))) (fresh-is _ _ (c .before .before .before .before .before .row-at .result) _ (c .before .is-fresh .result) (c .before .before .before .before .before .row-at .ensures) (c .before .is-fresh .ensures) (not-false (c .before .is-fresh .result) (c .if2 .left))))
+loop-again c =
+    let c1 = c .before in
+    let c2 = c1 .before in
+    let c3 = c2 .before in
+    let c5 = c3 .before .before in
+    let c6 = c5 .before in
+    let a = c6 .before .before .before .before .args in
+    let l = c6 .before .loop in (
+      omega arith,
+      kept-step (now (a .register)) (now (a .book)) _ (l .i) (a .n) (l .inv .1) (c6 .loop-test .taken)
+          (kept-is _ (c5 .row-at .result) _ (c3 .row-kept .result) (c5 .row-at .ensures) (c3 .row-kept .ensures)
+          (not-false (c3 .row-kept .result) (c2 .if1 .left)))
+          (fresh-is _ _ (c5 .row-at .result) _ (c1 .is-fresh .result) (c5 .row-at .ensures) (c1 .is-fresh .ensures)
+          (not-false (c1 .is-fresh .result) (c .if2 .left))),
+    )
 
 returns-3 : tie.Need-returns-3 Inv-loop μ-loop
 returns-3 c = sym (kept-end (now (c .before .before .before .before .args .register)) (now (c .before .before .before .before .args .book)) _ (c .before .loop .i) (c .before .before .before .before .args .n) (c .before .loop .inv .1) (c .loop-test .left))

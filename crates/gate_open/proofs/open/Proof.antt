@@ -40,7 +40,14 @@ same-length-4 : tie.Need-same-length-4
 same-length-4 c = search needs
 
 returns-2 : tie.Need-returns-2
-returns-2 c = open-done (memory (now (c .before .before .before .before .before .before .before .before .before .before .before .before .before .before .before .before .before .args .register)) (now (c .before .before .before .before .before .before .before .before .before .before .before .before .before .before .before .before .before .args .book)) (now (c .before .before .before .before .before .before .before .before .before .before .before .before .before .before .before .before .before .args .places))) (c .before .before .before .before .before .before .before .before .before .before .before .refusal-of-opening .result) _ _ (c .before .before .before .before .before .before .before .before .before .before .before .refusal-of-opening .ensures) (c .before .before .before .before .before .before .before .before .before .before .if1 .left) (c .before .before .store32 .ensures) (c .before .before .before .before .before .before .before .store .ensures)
+returns-2 c =
+    let c2 = c .before .before in
+    let c7 = c2 .before .before .before .before .before in
+    let c10 = c7 .before .before .before in
+    let c11 = c10 .before in
+    let a = c11 .before .before .before .before .before .before .args in
+    open-done (memory (now (a .register)) (now (a .book)) (now (a .places)))
+    (c11 .refusal-of-opening .result) _ _ (c11 .refusal-of-opening .ensures) (c10 .if1 .left) (c2 .store32 .ensures) (c7 .store .ensures)
 
 pub open-spec : {M : Type 1} → statement M
 open-spec =

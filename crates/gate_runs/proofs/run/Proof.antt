@@ -14,7 +14,12 @@ use Rattle.gate_runs.proofs.run.Statement.{statement}
 use Rattle.gate_runs.proofs.run.Tie as tie
 
 abbrev Inv-loop : tie.InvT-loop
-Inv-loop register₀ book₀ places₀ calls answers₀ refusal n i₀ register book places answers i = (i ≤ n) × (n ≡ callCount calls) × (length calls ≡ 5 * n) × (length answers₀ ≡ 2 * n) × (length register ≡ length register₀) × (length book ≡ length book₀) × (length places ≡ length places₀) × (length answers ≡ length answers₀) × (memory register book places ≡ run shanghai (memory register₀ book₀ places₀) (decoded calls i)) × (answers ≡ roomAfter (memory register₀ book₀ places₀) calls answers₀ i)
+Inv-loop register₀ book₀ places₀ calls answers₀ refusal n i₀ register book places answers i =
+    (i ≤ n) × (n ≡ callCount calls) × (length calls ≡ 5 * n) × (length answers₀ ≡ 2 * n)
+    × (length register ≡ length register₀) × (length book ≡ length book₀) × (length places ≡ length places₀)
+    × (length answers ≡ length answers₀)
+    × (memory register book places ≡ run shanghai (memory register₀ book₀ places₀) (decoded calls i))
+    × (answers ≡ roomAfter (memory register₀ book₀ places₀) calls answers₀ i)
 
 abbrev μ-loop : tie.MeasureT-loop
 μ-loop register₀ book₀ places₀ calls answers₀ refusal n i₀ register book places answers i = n - i
@@ -26,10 +31,29 @@ same-length : tie.Need-same-length Inv-loop μ-loop
 same-length c = search needs
 
 returns : tie.Need-returns Inv-loop μ-loop
-returns c = run-refused (memory (now (c .before .before .before .before .before .before .before .before .args .register)) (now (c .before .before .before .before .before .before .before .before .args .book)) (now (c .before .before .before .before .before .before .before .before .args .places))) (now (c .before .before .before .before .before .before .before .before .args .calls)) (now (c .before .before .before .before .before .before .before .before .args .answers)) (c .before .refusal-of-run .result) (c .before .refusal-of-run .ensures) (c .if1 .taken)
+returns c =
+    let c1 = c .before in
+    let a = c1 .before .before .before .before .before .before .before .args in
+    run-refused (memory (now (a .register)) (now (a .book)) (now (a .places)))
+    (now (a .calls)) (now (a .answers)) (c1 .refusal-of-run .result) (c1 .refusal-of-run .ensures) (c .if1 .taken)
 
 loop-holds : tie.Need-loop-holds Inv-loop μ-loop
-loop-holds c = let k = run-known (memory (now (c .before .before .before .before .before .before .before .before .args .register)) (now (c .before .before .before .before .before .before .before .before .args .book)) (now (c .before .before .before .before .before .before .before .before .args .places))) (now (c .before .before .before .before .before .before .before .before .args .calls)) (now (c .before .before .before .before .before .before .before .before .args .answers)) (sym (c .before .refusal-of-run .ensures) ∙ c .if1 .left) in (omega arith, refl, k .0, k .1, refl, refl, refl, refl, start-memory (memory (now (c .before .before .before .before .before .before .before .before .args .register)) (now (c .before .before .before .before .before .before .before .before .args .book)) (now (c .before .before .before .before .before .before .before .before .args .places))) (now (c .before .before .before .before .before .before .before .before .args .calls)) (now (c .before .before .before .before .before .before .before .before .args .answers)), start-room (memory (now (c .before .before .before .before .before .before .before .before .args .register)) (now (c .before .before .before .before .before .before .before .before .args .book)) (now (c .before .before .before .before .before .before .before .before .args .places))) (now (c .before .before .before .before .before .before .before .before .args .calls)) (now (c .before .before .before .before .before .before .before .before .args .answers)))
+loop-holds c =
+    let c1 = c .before in
+    let a = c1 .before .before .before .before .before .before .before .args in
+    let m = memory (now (a .register)) (now (a .book)) (now (a .places)) in
+    let k = run-known m (now (a .calls)) (now (a .answers)) (sym (c1 .refusal-of-run .ensures) ∙ c .if1 .left) in (
+      omega arith,
+      refl,
+      k .0,
+      k .1,
+      refl,
+      refl,
+      refl,
+      refl,
+      start-memory m (now (a .calls)) (now (a .answers)),
+      start-room m (now (a .calls)) (now (a .answers)),
+    )
 
 turn-requires : tie.Need-turn-requires Inv-loop μ-loop
 turn-requires c κs = (omega arith, omega arith)
@@ -41,7 +65,24 @@ loop-less : tie.Need-loop-less Inv-loop μ-loop
 loop-less c = search needs
 
 loop-again : tie.Need-loop-again Inv-loop μ-loop
-loop-again c = (omega arith, c .before .before .before .before .before .before .before .before .before .before .before .before .before .before .loop .inv .1, c .before .before .before .before .before .before .before .before .before .before .before .before .before .before .loop .inv .2, c .before .before .before .before .before .before .before .before .before .before .before .before .before .before .loop .inv .3, search needs, search needs, search needs, search needs, turn-memory (memory (now (c .before .before .before .before .before .before .before .before .before .before .before .before .before .before .before .before .before .before .before .before .before .before .before .args .register)) (now (c .before .before .before .before .before .before .before .before .before .before .before .before .before .before .before .before .before .before .before .before .before .before .before .args .book)) (now (c .before .before .before .before .before .before .before .before .before .before .before .before .before .before .before .before .before .before .before .before .before .before .before .args .places))) (now (c .before .before .before .before .before .before .before .before .before .before .before .before .before .before .before .before .before .before .before .before .before .before .before .args .calls)) (now (c .before .before .before .before .before .before .before .before .before .before .before .before .before .before .before .before .before .before .before .before .before .before .before .args .answers)) (c .before .before .before .before .before .before .before .before .before .before .before .before .before .before .loop .i) (memory (c .before .before .before .before .before .before .before .before .before .before .before .before .before .before .loop .register) (c .before .before .before .before .before .before .before .before .before .before .before .before .before .before .loop .book) (c .before .before .before .before .before .before .before .before .before .before .before .before .before .before .loop .places)) (c .before .before .before .before .before .before .before .before .before .before .before .before .before .before .loop .inv .8) _ (c .before .before .before .before .before .before .before .before .turn .ensures .0), turn-room (memory (now (c .before .before .before .before .before .before .before .before .before .before .before .before .before .before .before .before .before .before .before .before .before .before .before .args .register)) (now (c .before .before .before .before .before .before .before .before .before .before .before .before .before .before .before .before .before .before .before .before .before .before .before .args .book)) (now (c .before .before .before .before .before .before .before .before .before .before .before .before .before .before .before .before .before .before .before .before .before .before .before .args .places))) (now (c .before .before .before .before .before .before .before .before .before .before .before .before .before .before .before .before .before .before .before .before .before .before .before .args .calls)) (now (c .before .before .before .before .before .before .before .before .before .before .before .before .before .before .before .before .before .before .before .before .before .before .before .args .answers)) (c .before .before .before .before .before .before .before .before .before .before .before .before .before .before .loop .i) (memory (c .before .before .before .before .before .before .before .before .before .before .before .before .before .before .loop .register) (c .before .before .before .before .before .before .before .before .before .before .before .before .before .before .loop .book) (c .before .before .before .before .before .before .before .before .before .before .before .before .before .before .loop .places)) (c .before .before .before .before .before .before .before .before .before .before .before .before .before .before .loop .inv .8) (c .before .before .before .before .before .before .before .before .before .before .before .before .before .before .loop .answers) _ (omega arith) (c .before .before .before .before .before .before .before .before .before .before .before .before .before .before .loop .inv .9) (c .before .before .before .before .before .before .before .before .turn .ensures .1))
+loop-again c =
+    let c8 = c .before .before .before .before .before .before .before .before in
+    let a = c8 .before .before .before .before .before .before .before .before .before .before .before .before .before .before .before .args in
+    let l = c8 .before .before .before .before .before .before .loop in
+    let m = memory (now (a .register)) (now (a .book)) (now (a .places)) in (
+      omega arith,
+      l .inv .1,
+      l .inv .2,
+      l .inv .3,
+      search needs,
+      search needs,
+      search needs,
+      search needs,
+      turn-memory m (now (a .calls)) (now (a .answers)) (l .i) (memory (l .register) (l .book) (l .places)) (l .inv .8) _
+          (c8 .turn .ensures .0),
+      turn-room m (now (a .calls)) (now (a .answers)) (l .i) (memory (l .register) (l .book) (l .places)) (l .inv .8) (l .answers) _
+          (omega arith) (l .inv .9) (c8 .turn .ensures .1),
+    )
 
 same-length-2 : tie.Need-same-length-2 Inv-loop μ-loop
 same-length-2 c = search needs
@@ -56,7 +97,14 @@ same-length-5 : tie.Need-same-length-5 Inv-loop μ-loop
 same-length-5 c = search needs
 
 returns-2 : tie.Need-returns-2 Inv-loop μ-loop
-returns-2 c = run-done (memory (now (c .before .before .before .before .before .before .before .before .before .before .args .register)) (now (c .before .before .before .before .before .before .before .before .before .before .args .book)) (now (c .before .before .before .before .before .before .before .before .before .before .args .places))) (now (c .before .before .before .before .before .before .before .before .before .before .args .calls)) (now (c .before .before .before .before .before .before .before .before .before .before .args .answers)) (c .before .before .before .refusal-of-run .result) (c .before .loop .i) _ _ (c .before .before .before .refusal-of-run .ensures) (c .before .before .if1 .left) (omega arith) (c .before .loop .inv .8) (c .before .loop .inv .9)
+returns-2 c =
+    let c2 = c .before .before in
+    let c3 = c2 .before in
+    let a = c3 .before .before .before .before .before .before .before .args in
+    let l = c .before .loop in
+    run-done (memory (now (a .register)) (now (a .book)) (now (a .places)))
+    (now (a .calls)) (now (a .answers)) (c3 .refusal-of-run .result) (l .i) _ _ (c3 .refusal-of-run .ensures) (c2 .if1 .left) (omega arith)
+    (l .inv .8) (l .inv .9)
 
 pub run-spec : {M : Type 1} → statement M
 run-spec =

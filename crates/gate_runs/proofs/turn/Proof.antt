@@ -36,7 +36,14 @@ same-length-4 : tie.Need-same-length-4
 same-length-4 c = search needs
 
 returns : tie.Need-returns
-returns c = turned (memory (now (c .before .before .before .before .before .before .before .before .before .before .before .before .before .before .before .before .before .before .before .before .before .args .register)) (now (c .before .before .before .before .before .before .before .before .before .before .before .before .before .before .before .before .before .before .before .before .before .args .book)) (now (c .before .before .before .before .before .before .before .before .before .before .before .before .before .before .before .before .before .before .before .before .before .args .places))) _ (c .before .before .before .before .before .before .before .before .before .before .before .before .before .before .before .call-at .result) (callAt (now (c .before .before .before .before .before .before .before .before .before .before .before .before .before .before .before .before .before .before .before .before .before .args .calls)) (c .before .before .before .before .before .before .before .before .before .before .before .before .before .before .before .before .before .before .before .before .before .args .i)) (c .before .before .before .before .before .before .before .before .before .before .before .call .result) (now (c .before .before .before .before .before .before .before .before .before .before .before .before .before .before .before .before .before .before .before .before .before .args .answers)) _ (2 * c .before .before .before .before .before .before .before .before .before .before .before .before .before .before .before .before .before .before .before .before .before .args .i) (c .before .before .before .before .before .before .before .before .before .before .before .before .before .before .before .call-at .ensures) (c .before .before .before .before .before .before .before .before .before .before .before .call .ensures .0) (c .before .before .before .before .before .before .before .before .before .before .before .call .ensures .1) (c .before .before .store .ensures)
+returns c =
+    let c2 = c .before .before in
+    let c11 = c2 .before .before .before .before .before .before .before .before .before in
+    let c15 = c11 .before .before .before .before in
+    let a = c15 .before .before .before .before .before .before .args in
+    turned (memory (now (a .register)) (now (a .book)) (now (a .places))) _
+    (c15 .call-at .result) (callAt (now (a .calls)) (a .i)) (c11 .call .result) (now (a .answers)) _ (2 * a .i) (c15 .call-at .ensures)
+    (c11 .call .ensures .0) (c11 .call .ensures .1) (c2 .store .ensures)
 
 pub turn-spec : {M : Type 1} → statement M
 turn-spec =

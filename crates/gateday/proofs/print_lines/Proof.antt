@@ -36,10 +36,17 @@ same-length-4 c = search needs
 
 returns : tie.Need-returns Inv-loop μ-loop
 returns c =
-    let a = c .before .before .before .before .before .before .before .before .before .before .before .before .before .before .before .before .before .before .before .before .before .args in
-    let l = c .before .before .before .before .before .before .before .before .before .before .before .before .before .before .before .loop in
+    let c15 = c .before .before .before .before .before .before .before .before .before .before .before .before .before .before .before in
+    let c21 = c15 .before .before .before .before .before .before in
+    let a = c21 .args in
+    let l = c15 .loop in
     let s = c .before .before .before .before .before .before .before .before .before .print-some in
-    begun-stops (now (a .text)) (memory (now (a .register)) (now (a .book)) (now (a .places))) (l .from) (memory (l .register) (l .book) (l .places)) (l .inv .5) (length (l .out) / 10) (s .result) (memory (s .last .0) (s .last .1 .0) (s .last .1 .1 .0)) (room-for-one (length (l .out)) (omega (arith, l .inv .4, c .before .before .before .before .before .before .before .before .before .before .before .before .before .before .before .before .before .before .before .before .before .pre))) (s .ensures .1) (s .ensures .2) (c .if1 .taken)
+    begun-stops (now (a .text))
+    (memory (now (a .register)) (now (a .book)) (now (a .places)))
+    (l .from) (memory (l .register) (l .book) (l .places)) (l .inv .5) (length (l .out) / 10) (s .result)
+    (memory (s .last .0) (s .last .1 .0) (s .last .1 .1 .0))
+    (room-for-one (length (l .out)) (omega (arith, l .inv .4, c21 .pre)))
+    (s .ensures .1) (s .ensures .2) (c .if1 .taken)
 
 add-from : tie.Need-add-from Inv-loop μ-loop
 add-from c = search needs

@@ -45,7 +45,32 @@ row-kept-requires c κs = search needs
 
 returns : tie.Need-returns
 unfolding rowIn rowFormed rowGood
-returns c = rw (c .row-kept .ensures, c .before .limit-of2 .ensures, c .before .before .limit-of .ensures, c .before .before .before .before .before .before .before .before .before .before .before .same-at .ensures, c .before .before .before .before .before .before .before .before .before .before .before .before .before .plain-at5 .ensures, c .before .before .before .before .before .before .before .before .before .before .before .before .before .before .plain-at4 .ensures, c .before .before .before .before .before .before .before .before .before .before .before .before .before .before .before .plain-at3 .ensures, c .before .before .before .before .before .before .before .before .before .before .before .before .before .before .before .before .signed-at .ensures, c .before .before .before .before .before .before .before .before .before .before .before .before .before .before .before .before .before .optional-at2 .ensures, c .before .before .before .before .before .before .before .before .before .before .before .before .before .before .before .before .before .before .optional-at .ensures, c .before .before .before .before .before .before .before .before .before .before .before .before .before .before .before .before .before .before .before .plain-at2 .ensures, c .before .before .before .before .before .before .before .before .before .before .before .before .before .before .before .before .before .before .before .before .plain-at .ensures)
+returns c =
+    let c1 = c .before in
+    let c2 = c1 .before in
+    let c11 = c2 .before .before .before .before .before .before .before .before .before in
+    let c13 = c11 .before .before in
+    let c14 = c13 .before in
+    let c15 = c14 .before in
+    let c16 = c15 .before in
+    let c17 = c16 .before in
+    let c18 = c17 .before in
+    let c19 = c18 .before in
+    let c20 = c19 .before in
+    rw (
+      c .row-kept .ensures,
+      c1 .limit-of2 .ensures,
+      c2 .limit-of .ensures,
+      c11 .same-at .ensures,
+      c13 .plain-at5 .ensures,
+      c14 .plain-at4 .ensures,
+      c15 .plain-at3 .ensures,
+      c16 .signed-at .ensures,
+      c17 .optional-at2 .ensures,
+      c18 .optional-at .ensures,
+      c19 .plain-at2 .ensures,
+      c20 .plain-at .ensures,
+    )
 
 pub read-line-spec : {M : Type 1} → statement M
 read-line-spec =

@@ -36,7 +36,19 @@ class-at-requires-2 : tie.Need-class-at-requires-2 Inv-loop μ-loop
 class-at-requires-2 c κs = search needs
 
 returns : tie.Need-returns Inv-loop μ-loop
-returns c = sym (fresh-fail (now (c .before .before .before .before .before .before .before .before .args .text)) (rowIn (part (now (c .before .before .before .before .before .before .before .before .args .text)) (c .before .before .before .before .before .before .before .before .args .at) rowBytes)) (c .before .before .before .before .loop .place) (c .before .before .before .before .loop .more) (c .before .before .before .before .before .before .code-at .result) (c .before .before .before .before .before .class-at .result) (c .before .before .code-at2 .result) (c .before .class-at2 .result) (fresh (rowIn (part (now (c .before .before .before .before .before .before .before .before .args .text)) (c .before .before .before .before .before .before .before .before .args .at) rowBytes)) (rowsFrom (c .before .before .before .before .before .before .before .before .args .left) (drop (c .before .before .before .before .before .before .before .before .args .at + rowBytes) (now (c .before .before .before .before .before .before .before .before .args .text))))) (c .before .before .before .loop-test .taken) (c .before .before .before .before .before .before .code-at .ensures) (c .before .before .before .before .before .class-at .ensures) (c .before .before .code-at2 .ensures) (c .before .class-at2 .ensures) (c .before .before .before .before .loop .inv .1) (c .if1 .taken))
+returns c =
+    let c1 = c .before in
+    let c2 = c1 .before in
+    let c3 = c2 .before in
+    let c5 = c3 .before .before in
+    let c6 = c5 .before in
+    let a = c6 .before .before .args in
+    let l = c3 .before .loop in
+    sym (fresh-fail (now (a .text)) (rowIn (part (now (a .text)) (a .at) rowBytes)) (l .place) (l .more) (c6 .code-at .result)
+    (c5 .class-at .result) (c2 .code-at2 .result) (c1 .class-at2 .result)
+    (fresh (rowIn (part (now (a .text)) (a .at) rowBytes)) (rowsFrom (a .left) (drop (a .at + rowBytes) (now (a .text)))))
+    (c3 .loop-test .taken) (c6 .code-at .ensures) (c5 .class-at .ensures) (c2 .code-at2 .ensures) (c1 .class-at2 .ensures) (l .inv .1)
+    (c .if1 .taken))
 
 add-place-2 : tie.Need-add-place-2 Inv-loop μ-loop
 add-place-2 c = search needs
@@ -48,7 +60,21 @@ loop-less : tie.Need-loop-less Inv-loop μ-loop
 loop-less c = search needs
 
 loop-again : tie.Need-loop-again Inv-loop μ-loop
-loop-again c = (omega arith, fresh-step (now (c .before .before .before .before .before .before .before .before .args .text)) (rowIn (part (now (c .before .before .before .before .before .before .before .before .args .text)) (c .before .before .before .before .before .before .before .before .args .at) rowBytes)) (c .before .before .before .before .loop .place) (c .before .before .before .before .loop .more) (c .before .before .before .before .before .before .code-at .result) (c .before .before .before .before .before .class-at .result) (c .before .before .code-at2 .result) (c .before .class-at2 .result) (fresh (rowIn (part (now (c .before .before .before .before .before .before .before .before .args .text)) (c .before .before .before .before .before .before .before .before .args .at) rowBytes)) (rowsFrom (c .before .before .before .before .before .before .before .before .args .left) (drop (c .before .before .before .before .before .before .before .before .args .at + rowBytes) (now (c .before .before .before .before .before .before .before .before .args .text))))) (c .before .before .before .loop-test .taken) (c .before .before .before .before .before .before .code-at .ensures) (c .before .before .before .before .before .class-at .ensures) (c .before .before .code-at2 .ensures) (c .before .class-at2 .ensures) (c .before .before .before .before .loop .inv .1) (c .if1 .left))
+loop-again c =
+    let c1 = c .before in
+    let c2 = c1 .before in
+    let c3 = c2 .before in
+    let c5 = c3 .before .before in
+    let c6 = c5 .before in
+    let a = c6 .before .before .args in
+    let l = c3 .before .loop in (
+      omega arith,
+      fresh-step (now (a .text)) (rowIn (part (now (a .text)) (a .at) rowBytes)) (l .place) (l .more) (c6 .code-at .result)
+          (c5 .class-at .result) (c2 .code-at2 .result) (c1 .class-at2 .result)
+          (fresh (rowIn (part (now (a .text)) (a .at) rowBytes)) (rowsFrom (a .left) (drop (a .at + rowBytes) (now (a .text)))))
+          (c3 .loop-test .taken) (c6 .code-at .ensures) (c5 .class-at .ensures) (c2 .code-at2 .ensures) (c1 .class-at2 .ensures) (l .inv .1)
+          (c .if1 .left),
+    )
 
 returns-2 : tie.Need-returns-2 Inv-loop μ-loop
 returns-2 c = sym (c .before .loop .inv .1 ∙ fresh-end (rowIn (part (now (c .before .before .before .before .before .args .text)) (c .before .before .before .before .before .args .at) rowBytes)) (c .before .loop .more) (drop (c .before .loop .place) (now (c .before .before .before .before .before .args .text))) (c .loop-test .left))

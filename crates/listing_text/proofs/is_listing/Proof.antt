@@ -34,13 +34,33 @@ line-at-requires : tie.Need-line-at-requires Inv-loop μ-loop
 line-at-requires c κs = search needs
 
 returns-3 : tie.Need-returns-3 Inv-loop μ-loop
-returns-3 c = listing-is (now (c .before .before .before .before .before .before .before .before .args .text)) false (c .before .before .before .before .before .before .if1 .left) (c .before .before .before .before .before .if2 .left) (good-fail (now (c .before .before .before .before .before .before .before .before .args .text)) (c .before .before .before .before .loop .at) (c .before .before .before .before .loop .left) (c .before .before .line-at .result) (c .before .before .before .loop-test .taken) (c .before .before .line-at .ensures) (c .before .before .before .before .loop .inv .1) (c .if3 .taken))
+returns-3 c =
+    let c2 = c .before .before in
+    let c3 = c2 .before in
+    let c5 = c3 .before .before in
+    let c6 = c5 .before in
+    let a = c6 .before .before .args in
+    let l = c3 .before .loop in
+    listing-is (now (a .text)) false (c6 .if1 .left) (c5 .if2 .left)
+    (good-fail (now (a .text)) (l .at) (l .left) (c2 .line-at .result) (c3 .loop-test .taken) (c2 .line-at .ensures) (l .inv .1)
+    (c .if3 .taken))
 
 fresh-at-requires : tie.Need-fresh-at-requires Inv-loop μ-loop
 fresh-at-requires c κs = search needs
 
 returns-4 : tie.Need-returns-4 Inv-loop μ-loop
-returns-4 c = listing-is (now (c .before .before .before .before .before .before .before .before .before .before .args .text)) false (c .before .before .before .before .before .before .before .before .if1 .left) (c .before .before .before .before .before .before .before .if2 .left) (good-repeat (now (c .before .before .before .before .before .before .before .before .before .before .args .text)) (c .before .before .before .before .before .before .loop .at) (c .before .before .before .before .before .before .loop .left) (c .before .before .before .before .line-at .result) (c .before .before .before .before .before .loop-test .taken) (c .before .before .before .before .line-at .ensures) (c .before .before .before .before .before .before .loop .inv .1) (c .before .fresh-at .result) (c .before .fresh-at .ensures) (c .before .before .if3 .left) (c .if4 .taken))
+returns-4 c =
+    let c1 = c .before in
+    let c2 = c1 .before in
+    let c4 = c2 .before .before in
+    let c5 = c4 .before in
+    let c7 = c5 .before .before in
+    let c8 = c7 .before in
+    let a = c8 .before .before .args in
+    let l = c5 .before .loop in
+    listing-is (now (a .text)) false (c8 .if1 .left) (c7 .if2 .left)
+    (good-repeat (now (a .text)) (l .at) (l .left) (c4 .line-at .result) (c5 .loop-test .taken) (c4 .line-at .ensures) (l .inv .1)
+    (c1 .fresh-at .result) (c1 .fresh-at .ensures) (c2 .if3 .left) (c .if4 .taken))
 
 add-at : tie.Need-add-at Inv-loop μ-loop
 add-at c = search needs
@@ -49,7 +69,17 @@ loop-less : tie.Need-loop-less Inv-loop μ-loop
 loop-less c = search needs
 
 loop-again : tie.Need-loop-again Inv-loop μ-loop
-loop-again c = (omega arith, good-step (now (c .before .before .before .before .before .before .before .before .before .before .args .text)) (c .before .before .before .before .before .before .loop .at) (c .before .before .before .before .before .before .loop .left) (c .before .before .before .before .line-at .result) (c .before .before .before .before .before .loop-test .taken) (c .before .before .before .before .line-at .ensures) (c .before .before .before .before .before .before .loop .inv .1) (c .before .fresh-at .result) (c .before .fresh-at .ensures) (c .before .before .if3 .left) (c .if4 .left))
+loop-again c =
+    let c1 = c .before in
+    let c2 = c1 .before in
+    let c4 = c2 .before .before in
+    let c5 = c4 .before in
+    let a = c5 .before .before .before .before .before .args in
+    let l = c5 .before .loop in (
+      omega arith,
+      good-step (now (a .text)) (l .at) (l .left) (c4 .line-at .result) (c5 .loop-test .taken) (c4 .line-at .ensures) (l .inv .1)
+          (c1 .fresh-at .result) (c1 .fresh-at .ensures) (c2 .if3 .left) (c .if4 .left),
+    )
 
 returns-5 : tie.Need-returns-5 Inv-loop μ-loop
 returns-5 c = listing-is (now (c .before .before .before .before .before .args .text)) true (c .before .before .before .if1 .left) (c .before .before .if2 .left) (c .before .loop .inv .1 ∙ good-end (c .before .loop .left) (drop (c .before .loop .at) (now (c .before .before .before .before .before .args .text))) (c .loop-test .left))

@@ -15,13 +15,30 @@ counted-requires : tie.Need-counted-requires
 counted-requires c κs = search needs
 
 returns : tie.Need-returns
-returns c = cancel-short (c .before .before .before .before .before .before .before .before .args .money) (c .before .before .before .before .before .before .before .before .args .place) (c .before .before .counted .result) (counted-buy (c .before .before .before .before .before .before .before .before .args .place .price) (c .before .before .before .before .before .before .before .before .args .place .«open») (c .before .before .before .before .before .before .before .before .pre .0) (c .before .before .before .before .before .before .before .before .pre .1) (c .before .before .before .is-buy .result) (c .before .before .before .before .before .before .before .before .args .place .kind) (c .before .before .counted .result) (c .before .before .counted .ensures) (c .before .before .before .is-buy .ensures)) (c .if1 .taken)
+returns c =
+    let c2 = c .before .before in
+    let c3 = c2 .before in
+    let c8 = c3 .before .before .before .before .before in
+    let a = c8 .args in
+    cancel-short (a .money) (a .place) (c2 .counted .result)
+    (counted-buy (a .place .price) (a .place .«open») (c8 .pre .0) (c8 .pre .1) (c3 .is-buy .result) (a .place .kind) (c2 .counted .result)
+    (c2 .counted .ensures) (c3 .is-buy .ensures))
+    (c .if1 .taken)
 
 booked-if-fits-requires : tie.Need-booked-if-fits-requires
 booked-if-fits-requires c κs = search needs
 
 returns-2 : tie.Need-returns-2
-returns-2 c = c .booked-if-fits .ensures ∙ cancel-booked (c .before .before .before .before .before .before .before .before .before .before .args .money) (c .before .before .before .before .before .before .before .before .before .before .args .place) (c .before .before .before .before .counted .result) (counted-buy (c .before .before .before .before .before .before .before .before .before .before .args .place .price) (c .before .before .before .before .before .before .before .before .before .before .args .place .«open») (c .before .before .before .before .before .before .before .before .before .before .pre .0) (c .before .before .before .before .before .before .before .before .before .before .pre .1) (c .before .before .before .before .before .is-buy .result) (c .before .before .before .before .before .before .before .before .before .before .args .place .kind) (c .before .before .before .before .counted .result) (c .before .before .before .before .counted .ensures) (c .before .before .before .before .before .is-buy .ensures)) (c .before .before .if1 .left)
+returns-2 c =
+    let c2 = c .before .before in
+    let c4 = c2 .before .before in
+    let c5 = c4 .before in
+    let c10 = c5 .before .before .before .before .before in
+    let a = c10 .args in
+    c .booked-if-fits .ensures ∙ cancel-booked (a .money) (a .place) (c4 .counted .result)
+    (counted-buy (a .place .price) (a .place .«open») (c10 .pre .0) (c10 .pre .1) (c5 .is-buy .result) (a .place .kind)
+    (c4 .counted .result) (c4 .counted .ensures) (c5 .is-buy .ensures))
+    (c2 .if1 .left)
 
 pub booked-cancel-spec : {M : Type 1} → statement M
 booked-cancel-spec =

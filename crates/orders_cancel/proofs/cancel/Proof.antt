@@ -51,11 +51,21 @@ same-length-4 c = search needs
 returns-2 : tie.Need-returns-2
 unfolding cancelRefusal cancelBook cancelPlaces
 returns-2 c =
-    let a = c .before .before .before .before .before .before .before .before .before .before .before .before .before .before .before .args in
+    let c1 = c .before in
+    let c3 = c1 .before .before in
+    let c4 = c3 .before in
+    let c6 = c4 .before .before in
+    let c8 = c6 .before .before in
+    let c9 = c8 .before in
+    let a = c9 .before .before .before .before .before .before .args in
     let bs = now (a .book) in
     let ps = now (a .places) in
-    by-money (cancelListed (now (a .register)) bs ps (a .number)) (cancelBooked bs ps (a .number)) bs ps (a .number) 0 (c .before .before .before .before .before .before .before .before .before .listed-of-cancel .result) (c .before .before .before .before .before .before .before .before .before .listed-of-cancel .ensures) (c .before .before .before .before .before .before .before .before .if1 .left) (c .before .before .before .booked-cancel .result)
-    (cancel-done bs ps (a .number) (c .before .before .before .before .money-at .result) (c .before .before .before .before .before .before .place-at .result) (c .before .before .before .booked-cancel .result) (c .before .before .before .booked-cancel .ensures) (c .before .before .before .before .before .before .place-at .ensures) (c .before .before .before .before .money-at .ensures)) _ (c .refused-by2 .ensures) (c .before .if2 .taken)
+    by-money (cancelListed (now (a .register)) bs ps (a .number))
+    (cancelBooked bs ps (a .number)) bs ps (a .number) 0 (c9 .listed-of-cancel .result) (c9 .listed-of-cancel .ensures) (c8 .if1 .left)
+    (c3 .booked-cancel .result)
+    (cancel-done bs ps (a .number) (c4 .money-at .result) (c6 .place-at .result) (c3 .booked-cancel .result) (c3 .booked-cancel .ensures)
+    (c6 .place-at .ensures) (c4 .money-at .ensures)) _
+    (c .refused-by2 .ensures) (c1 .if2 .taken)
 
 put-money-requires : tie.Need-put-money-requires
 put-money-requires c κs = search needs
@@ -75,11 +85,24 @@ same-length-6 c = search needs
 returns-3 : tie.Need-returns-3
 unfolding cancelRefusal cancelBook cancelPlaces
 returns-3 c =
-    let a = c .before .before .before .before .before .before .before .before .before .before .before .before .before .before .before .before .before .before .before .before .before .before .before .before .args in
+    let c3 = c .before .before .before in
+    let c7 = c3 .before .before .before .before in
+    let c10 = c7 .before .before .before in
+    let c12 = c10 .before .before in
+    let c13 = c12 .before in
+    let c15 = c13 .before .before in
+    let c17 = c15 .before .before in
+    let c18 = c17 .before in
+    let a = c18 .before .before .before .before .before .before .args in
     let bs = now (a .book) in
     let ps = now (a .places) in
-    taken (cancelListed (now (a .register)) bs ps (a .number)) (cancelBooked bs ps (a .number)) bs ps (a .number) 0 (c .before .before .before .before .before .before .before .before .before .before .before .before .before .before .before .before .before .before .listed-of-cancel .result) (c .before .before .before .before .before .before .before .before .before .before .before .before .before .before .before .before .before .before .listed-of-cancel .ensures) (c .before .before .before .before .before .before .before .before .before .before .before .before .before .before .before .before .before .if1 .left) (c .before .before .before .before .before .before .before .before .before .before .before .before .booked-cancel .result)
-    (cancel-done bs ps (a .number) (c .before .before .before .before .before .before .before .before .before .before .before .before .before .money-at .result) (c .before .before .before .before .before .before .before .before .before .before .before .before .before .before .before .place-at .result) (c .before .before .before .before .before .before .before .before .before .before .before .before .booked-cancel .result) (c .before .before .before .before .before .before .before .before .before .before .before .before .booked-cancel .ensures) (c .before .before .before .before .before .before .before .before .before .before .before .before .before .before .before .place-at .ensures) (c .before .before .before .before .before .before .before .before .before .before .before .before .before .money-at .ensures)) _ (c .before .before .before .before .before .before .before .before .before .before .before .before .before .before .before .place-at .result) _ _ (c .accepted-as .ensures) (c .before .before .before .before .before .before .before .before .before .before .if2 .left) (c .before .before .before .before .before .before .before .before .before .before .before .before .before .before .before .place-at .ensures) (c .before .before .before .before .before .before .before .put-money .ensures) (c .before .before .before .put-open .ensures)
+    taken (cancelListed (now (a .register)) bs ps (a .number))
+    (cancelBooked bs ps (a .number)) bs ps (a .number) 0 (c18 .listed-of-cancel .result) (c18 .listed-of-cancel .ensures) (c17 .if1 .left)
+    (c12 .booked-cancel .result)
+    (cancel-done bs ps (a .number) (c13 .money-at .result) (c15 .place-at .result) (c12 .booked-cancel .result)
+    (c12 .booked-cancel .ensures) (c15 .place-at .ensures) (c13 .money-at .ensures)) _
+    (c15 .place-at .result) _ _ (c .accepted-as .ensures) (c10 .if2 .left) (c15 .place-at .ensures) (c7 .put-money .ensures)
+    (c3 .put-open .ensures)
 
 pub cancel-spec : {M : Type 1} → statement M
 cancel-spec =

@@ -45,8 +45,16 @@ same-length-4 c = search needs
 
 returns-2 : tie.Need-returns-2
 returns-2 c =
-    let a = c .before .before .before .before .before .before .before .before .before .before .before .before .before .args in
-    by-money shanghai (now (a .register)) (now (a .book)) (now (a .places)) (a .unit) (a .kind) (a .price) (a .quantity) (c .before .before .before .before .before .before .before .listed-of-order .result .refusal) (c .before .before .before .before .before .before .before .listed-of-order .ensures .0) (c .before .before .before .before .before .before .if1 .left) (c .before .before .before .before .before .before .before .listed-of-order .result .group) (c .before .before .before .before .before .before .before .listed-of-order .ensures .1) (c .before .before .before .before .money-at .result) (c .before .before .before .before .money-at .ensures) (c .before .before .before .booked-order .result) (c .before .before .before .booked-order .ensures) _ (c .refused-by2 .ensures) (c .before .if2 .taken)
+    let c1 = c .before in
+    let c3 = c1 .before .before in
+    let c4 = c3 .before in
+    let c6 = c4 .before .before in
+    let c7 = c6 .before in
+    let a = c7 .before .before .before .before .before .before .args in
+    by-money shanghai (now (a .register)) (now (a .book)) (now (a .places)) (a .unit) (a .kind) (a .price) (a .quantity)
+    (c7 .listed-of-order .result .refusal) (c7 .listed-of-order .ensures .0) (c6 .if1 .left) (c7 .listed-of-order .result .group)
+    (c7 .listed-of-order .ensures .1) (c4 .money-at .result) (c4 .money-at .ensures) (c3 .booked-order .result) (c3 .booked-order .ensures)
+    _ (c .refused-by2 .ensures) (c1 .if2 .taken)
 
 accepted-of-requires : tie.Need-accepted-of-requires
 accepted-of-requires c κs = search needs
@@ -76,8 +84,21 @@ same-length-6 c = search needs
 
 returns-3 : tie.Need-returns-3
 returns-3 c =
-    let a = c .before .before .before .before .before .before .before .before .before .before .before .before .before .before .before .before .before .before .before .before .before .before .before .before .before .before .before .before .args in
-    taken shanghai (now (a .register)) (now (a .book)) (now (a .places)) (a .unit) (a .kind) (a .price) (a .quantity) (c .before .before .before .before .before .before .before .before .before .before .before .before .before .before .before .before .before .before .before .before .before .before .listed-of-order .result .refusal) (c .before .before .before .before .before .before .before .before .before .before .before .before .before .before .before .before .before .before .before .before .before .before .listed-of-order .ensures .0) (c .before .before .before .before .before .before .before .before .before .before .before .before .before .before .before .before .before .before .before .before .before .if1 .left) (c .before .before .before .before .before .before .before .before .before .before .before .before .before .before .before .before .before .before .before .before .before .before .listed-of-order .result .group) (c .before .before .before .before .before .before .before .before .before .before .before .before .before .before .before .before .before .before .before .before .before .before .listed-of-order .ensures .1) (c .before .before .before .before .before .before .before .before .before .before .before .before .before .before .before .before .before .before .before .money-at .result) (c .before .before .before .before .before .before .before .before .before .before .before .before .before .before .before .before .before .before .before .money-at .ensures) (c .before .before .before .before .before .before .before .before .before .before .before .before .before .before .before .before .before .before .booked-order .result) (c .before .before .before .before .before .before .before .before .before .before .before .before .before .before .before .before .before .before .booked-order .ensures) _ (c .before .before .before .before .before .before .before .before .before .before .before .before .before .accepted-of .result) _ _ _ (c .accepted-as .ensures) (c .before .before .before .before .before .before .before .before .before .before .before .before .before .before .before .before .if2 .left) (c .before .before .before .before .before .before .before .before .before .before .before .before .before .accepted-of .ensures) (c .before .before .before .before .before .before .before .before .before .before .before .put-place .ensures) (c .before .before .before .before .before .before .before .put-money .ensures) (c .before .before .before .put-accepted .ensures)
+    let c3 = c .before .before .before in
+    let c7 = c3 .before .before .before .before in
+    let c11 = c7 .before .before .before .before in
+    let c13 = c11 .before .before in
+    let c16 = c13 .before .before .before in
+    let c18 = c16 .before .before in
+    let c19 = c18 .before in
+    let c21 = c19 .before .before in
+    let c22 = c21 .before in
+    let a = c22 .before .before .before .before .before .before .args in
+    taken shanghai (now (a .register)) (now (a .book)) (now (a .places)) (a .unit) (a .kind) (a .price) (a .quantity)
+    (c22 .listed-of-order .result .refusal) (c22 .listed-of-order .ensures .0) (c21 .if1 .left) (c22 .listed-of-order .result .group)
+    (c22 .listed-of-order .ensures .1) (c19 .money-at .result) (c19 .money-at .ensures) (c18 .booked-order .result)
+    (c18 .booked-order .ensures) _ (c13 .accepted-of .result) _ _ _ (c .accepted-as .ensures) (c16 .if2 .left) (c13 .accepted-of .ensures)
+    (c11 .put-place .ensures) (c7 .put-money .ensures) (c3 .put-accepted .ensures)
 
 pub order-spec : {M : Type 1} → statement M
 order-spec =

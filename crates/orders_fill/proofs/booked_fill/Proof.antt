@@ -15,7 +15,15 @@ counted-requires : tie.Need-counted-requires
 counted-requires c κs = search needs
 
 returns : tie.Need-returns
-returns c = fill-short (c .before .before .before .before .before .before .before .before .args .money) (c .before .before .before .before .before .before .before .before .args .place) (c .before .before .before .before .before .before .before .before .args .price) (c .before .before .before .before .before .before .before .before .args .quantity) (c .before .before .counted .result) (counted-buy (c .before .before .before .before .before .before .before .before .args .place .price) (c .before .before .before .before .before .before .before .before .args .quantity) (c .before .before .before .before .before .before .before .before .pre .1 .0) (c .before .before .before .before .before .before .before .before .pre .1 .1 .1) (c .before .before .before .is-buy .result) (c .before .before .before .before .before .before .before .before .args .place .kind) (c .before .before .counted .result) (c .before .before .counted .ensures) (c .before .before .before .is-buy .ensures)) (c .if1 .taken)
+returns c =
+    let c2 = c .before .before in
+    let c3 = c2 .before in
+    let c8 = c3 .before .before .before .before .before in
+    let a = c8 .args in
+    fill-short (a .money) (a .place) (a .price) (a .quantity) (c2 .counted .result)
+    (counted-buy (a .place .price) (a .quantity) (c8 .pre .1 .0) (c8 .pre .1 .1 .1) (c3 .is-buy .result) (a .place .kind)
+    (c2 .counted .result) (c2 .counted .ensures) (c3 .is-buy .ensures))
+    (c .if1 .taken)
 
 counted-requires-2 : tie.Need-counted-requires-2
 counted-requires-2 c κs = search needs
@@ -33,7 +41,23 @@ booked-if-fits-requires : tie.Need-booked-if-fits-requires
 booked-if-fits-requires c κs = search needs
 
 returns-2 : tie.Need-returns-2
-returns-2 c = c .booked-if-fits .ensures ∙ fill-booked (c .before .before .before .before .before .before .before .before .before .before .before .before .before .before .args .money) (c .before .before .before .before .before .before .before .before .before .before .before .before .before .before .args .place) (c .before .before .before .before .before .before .before .before .before .before .before .before .before .before .args .price) (c .before .before .before .before .before .before .before .before .before .before .before .before .before .before .args .quantity) (c .before .before .before .before .before .before .before .before .counted .result) (c .before .before .before .before .before .counted2 .result) (c .before .before .before .before .counted3 .result) (counted-buy (c .before .before .before .before .before .before .before .before .before .before .before .before .before .before .args .place .price) (c .before .before .before .before .before .before .before .before .before .before .before .before .before .before .args .quantity) (c .before .before .before .before .before .before .before .before .before .before .before .before .before .before .pre .1 .0) (c .before .before .before .before .before .before .before .before .before .before .before .before .before .before .pre .1 .1 .1) (c .before .before .before .before .before .before .before .before .before .is-buy .result) (c .before .before .before .before .before .before .before .before .before .before .before .before .before .before .args .place .kind) (c .before .before .before .before .before .before .before .before .counted .result) (c .before .before .before .before .before .before .before .before .counted .ensures) (c .before .before .before .before .before .before .before .before .before .is-buy .ensures)) (counted-buy (c .before .before .before .before .before .before .before .before .before .before .before .before .before .before .args .price) (c .before .before .before .before .before .before .before .before .before .before .before .before .before .before .args .quantity) (c .before .before .before .before .before .before .before .before .before .before .before .before .before .before .pre .1 .1 .0) (c .before .before .before .before .before .before .before .before .before .before .before .before .before .before .pre .1 .1 .1) (c .before .before .before .before .before .before .before .before .before .is-buy .result) (c .before .before .before .before .before .before .before .before .before .before .before .before .before .before .args .place .kind) (c .before .before .before .before .before .counted2 .result) (c .before .before .before .before .before .counted2 .ensures) (c .before .before .before .before .before .before .before .before .before .is-buy .ensures)) (counted-other (c .before .before .before .before .before .before .before .before .before .before .before .before .before .before .args .price) (c .before .before .before .before .before .before .before .before .before .before .before .before .before .before .args .quantity) (c .before .before .before .before .before .before .before .before .before .before .before .before .before .before .pre .1 .1 .0) (c .before .before .before .before .before .before .before .before .before .before .before .before .before .before .pre .1 .1 .1) (c .before .before .before .before .before .before .before .before .before .is-buy .result) (c .before .before .before .before .before .before .before .before .before .before .before .before .before .before .args .place .kind) (c .before .before .before .before .counted3 .result) (c .before .before .before .before .counted3 .ensures) (c .before .before .before .before .before .before .before .before .before .is-buy .ensures)) (c .before .before .before .before .before .before .if1 .left)
+returns-2 c =
+    let c4 = c .before .before .before .before in
+    let c5 = c4 .before in
+    let c6 = c5 .before in
+    let c8 = c6 .before .before in
+    let c9 = c8 .before in
+    let c14 = c9 .before .before .before .before .before in
+    let a = c14 .args in
+    c .booked-if-fits .ensures ∙ fill-booked (a .money) (a .place) (a .price) (a .quantity) (c8 .counted .result) (c5 .counted2 .result)
+    (c4 .counted3 .result)
+    (counted-buy (a .place .price) (a .quantity) (c14 .pre .1 .0) (c14 .pre .1 .1 .1) (c9 .is-buy .result) (a .place .kind)
+    (c8 .counted .result) (c8 .counted .ensures) (c9 .is-buy .ensures))
+    (counted-buy (a .price) (a .quantity) (c14 .pre .1 .1 .0) (c14 .pre .1 .1 .1) (c9 .is-buy .result) (a .place .kind)
+    (c5 .counted2 .result) (c5 .counted2 .ensures) (c9 .is-buy .ensures))
+    (counted-other (a .price) (a .quantity) (c14 .pre .1 .1 .0) (c14 .pre .1 .1 .1) (c9 .is-buy .result) (a .place .kind)
+    (c4 .counted3 .result) (c4 .counted3 .ensures) (c9 .is-buy .ensures))
+    (c6 .if1 .left)
 
 pub booked-fill-spec : {M : Type 1} → statement M
 booked-fill-spec =

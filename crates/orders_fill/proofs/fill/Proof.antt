@@ -55,20 +55,36 @@ same-length-4 c = search needs
 returns-2 : tie.Need-returns-2
 unfolding fillRefusal fillBook fillPlaces
 returns-2 c =
-    let a = c .before .before .before .before .before .before .before .before .before .before .before .before .before .before .before .args in
+    let c1 = c .before in
+    let c3 = c1 .before .before in
+    let c4 = c3 .before in
+    let c6 = c4 .before .before in
+    let c8 = c6 .before .before in
+    let c9 = c8 .before in
+    let a = c9 .before .before .before .before .before .before .args in
     let rs = now (a .register) in
     let bs = now (a .book) in
     let ps = now (a .places) in
-    by-money (fillListed rs bs ps (a .number) (a .price) (a .quantity)) (fillBooked bs ps (a .number) (a .price) (a .quantity)) bs ps (a .number) ((placeAt ps (a .number)) .«open» - a .quantity) (c .before .before .before .before .before .before .before .before .before .listed-of-fill .result) (c .before .before .before .before .before .before .before .before .before .listed-of-fill .ensures) (c .before .before .before .before .before .before .before .before .if1 .left) (c .before .before .before .booked-fill .result)
-    (fill-done bs ps (a .number) (a .price) (a .quantity) (c .before .before .before .before .money-at .result) (c .before .before .before .before .before .before .place-at .result) (c .before .before .before .booked-fill .result) (c .before .before .before .booked-fill .ensures) (c .before .before .before .before .before .before .place-at .ensures) (c .before .before .before .before .money-at .ensures)) _ (c .refused-by2 .ensures) (c .before .if2 .taken)
+    by-money (fillListed rs bs ps (a .number) (a .price) (a .quantity))
+    (fillBooked bs ps (a .number) (a .price) (a .quantity))
+    bs ps (a .number) ((placeAt ps (a .number)) .«open» - a .quantity) (c9 .listed-of-fill .result) (c9 .listed-of-fill .ensures)
+    (c8 .if1 .left) (c3 .booked-fill .result)
+    (fill-done bs ps (a .number) (a .price) (a .quantity) (c4 .money-at .result) (c6 .place-at .result) (c3 .booked-fill .result)
+    (c3 .booked-fill .ensures) (c6 .place-at .ensures) (c4 .money-at .ensures)) _
+    (c .refused-by2 .ensures) (c1 .if2 .taken)
 
 put-money-requires : tie.Need-put-money-requires
 put-money-requires c κs = search needs
 
 sub-put-open : tie.Need-sub-put-open
 sub-put-open c =
-    let a = c .before .before .before .before .before .before .before .before .before .before .before .before .before .before .before .before .before .before .before .before .before .args in
-    fill-open (now (a .register)) (now (a .book)) (now (a .places)) (a .number) (a .price) (a .quantity) (sym (c .before .before .before .before .before .before .before .before .before .before .before .before .before .before .before .listed-of-fill .ensures) ∙ c .before .before .before .before .before .before .before .before .before .before .before .before .before .before .if1 .left) (c .before .before .before .before .before .before .before .before .before .before .before .before .place-at .result) (c .before .before .before .before .before .before .before .before .before .before .before .before .place-at .ensures)
+    let c12 = c .before .before .before .before .before .before .before .before .before .before .before .before in
+    let c14 = c12 .before .before in
+    let c15 = c14 .before in
+    let a = c15 .before .before .before .before .before .before .args in
+    fill-open (now (a .register)) (now (a .book)) (now (a .places)) (a .number) (a .price) (a .quantity)
+    (sym (c15 .listed-of-fill .ensures) ∙ c14 .if1 .left)
+    (c12 .place-at .result) (c12 .place-at .ensures)
 
 put-open-requires : tie.Need-put-open-requires
 put-open-requires c κs = search needs
@@ -85,13 +101,26 @@ same-length-6 c = search needs
 returns-3 : tie.Need-returns-3
 unfolding fillRefusal fillBook fillPlaces
 returns-3 c =
-    let a = c .before .before .before .before .before .before .before .before .before .before .before .before .before .before .before .before .before .before .before .before .before .before .before .before .before .args in
+    let c3 = c .before .before .before in
+    let c8 = c3 .before .before .before .before .before in
+    let c11 = c8 .before .before .before in
+    let c13 = c11 .before .before in
+    let c14 = c13 .before in
+    let c16 = c14 .before .before in
+    let c18 = c16 .before .before in
+    let c19 = c18 .before in
+    let a = c19 .before .before .before .before .before .before .args in
     let rs = now (a .register) in
     let bs = now (a .book) in
     let ps = now (a .places) in
-    taken (fillListed rs bs ps (a .number) (a .price) (a .quantity)) (fillBooked bs ps (a .number) (a .price) (a .quantity)) bs ps (a .number) ((placeAt ps (a .number)) .«open» - a .quantity) (c .before .before .before .before .before .before .before .before .before .before .before .before .before .before .before .before .before .before .before .listed-of-fill .result) (c .before .before .before .before .before .before .before .before .before .before .before .before .before .before .before .before .before .before .before .listed-of-fill .ensures) (c .before .before .before .before .before .before .before .before .before .before .before .before .before .before .before .before .before .before .if1 .left) (c .before .before .before .before .before .before .before .before .before .before .before .before .before .booked-fill .result)
-    (fill-done bs ps (a .number) (a .price) (a .quantity) (c .before .before .before .before .before .before .before .before .before .before .before .before .before .before .money-at .result) (c .before .before .before .before .before .before .before .before .before .before .before .before .before .before .before .before .place-at .result) (c .before .before .before .before .before .before .before .before .before .before .before .before .before .booked-fill .result) (c .before .before .before .before .before .before .before .before .before .before .before .before .before .booked-fill .ensures) (c .before .before .before .before .before .before .before .before .before .before .before .before .before .before .before .before .place-at .ensures) (c .before .before .before .before .before .before .before .before .before .before .before .before .before .before .money-at .ensures)) _ (c .before .before .before .before .before .before .before .before .before .before .before .before .before .before .before .before .place-at .result) _ _ (c .accepted-as .ensures) (c .before .before .before .before .before .before .before .before .before .before .before .if2 .left) (c .before .before .before .before .before .before .before .before .before .before .before .before .before .before .before .before .place-at .ensures) (c .before .before .before .before .before .before .before .before .put-money .ensures)
-    (c .before .before .before .put-open .ensures ∙ ap (λ y. putOpen ps (a .number) (y .«open» - a .quantity)) (c .before .before .before .before .before .before .before .before .before .before .before .before .before .before .before .before .place-at .ensures))
+    taken (fillListed rs bs ps (a .number) (a .price) (a .quantity))
+    (fillBooked bs ps (a .number) (a .price) (a .quantity))
+    bs ps (a .number) ((placeAt ps (a .number)) .«open» - a .quantity) (c19 .listed-of-fill .result) (c19 .listed-of-fill .ensures)
+    (c18 .if1 .left) (c13 .booked-fill .result)
+    (fill-done bs ps (a .number) (a .price) (a .quantity) (c14 .money-at .result) (c16 .place-at .result) (c13 .booked-fill .result)
+    (c13 .booked-fill .ensures) (c16 .place-at .ensures) (c14 .money-at .ensures)) _
+    (c16 .place-at .result) _ _ (c .accepted-as .ensures) (c11 .if2 .left) (c16 .place-at .ensures) (c8 .put-money .ensures)
+    (c3 .put-open .ensures ∙ ap (λ y. putOpen ps (a .number) (y .«open» - a .quantity)) (c16 .place-at .ensures))
 
 pub fill-spec : {M : Type 1} → statement M
 fill-spec =

@@ -28,7 +28,15 @@ cast-if1 : tie.Need-cast-if1 Inv-loop μ-loop
 cast-if1 c = omega (arith, c .shared-slice-known .given (c .before .before .loop .k))
 
 returns : tie.Need-returns Inv-loop μ-loop
-returns c = sym (lacks-here (now (c .before .before .before .before .args .ws)) (c .before .before .before .before .args .n) (c .before .before .before .loop .k) (c .before .before .before .before .args .key) (omega (arith, c .before .before .loop-test .taken, c .before .before .before .before .pre .1)) (omega (arith, c .before .before .loop-test .taken, c .before .before .before .before .pre .2)) (c .before .before .before .loop .inv .1) (c .if1 .taken))
+returns c =
+    let c2 = c .before .before in
+    let c4 = c2 .before .before in
+    let a = c4 .args in
+    let l = c2 .before .loop in
+    sym (lacks-here (now (a .ws)) (a .n) (l .k) (a .key)
+    (omega (arith, c2 .loop-test .taken, c4 .pre .1))
+    (omega (arith, c2 .loop-test .taken, c4 .pre .2))
+    (l .inv .1) (c .if1 .taken))
 
 add-k : tie.Need-add-k Inv-loop μ-loop
 add-k c = search needs

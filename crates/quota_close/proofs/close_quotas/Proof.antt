@@ -24,7 +24,14 @@ same-length-2 : tie.Need-same-length-2
 same-length-2 c = search needs
 
 returns-2 : tie.Need-returns-2
-returns-2 c = close-sound (now (c .before .before .before .before .before .before .before .before .before .before .args .register)) _ (c .before .before .before .before .before .before .before .register-ok .result) (c .before .before .before .before .group-count .result) (c .before .before .before .before .before .before .before .register-ok .ensures) (c .before .before .before .before .before .before .if1 .left) (c .before .before .close-groups .ensures) (c .before .before .before .before .group-count .ensures)
+returns-2 c =
+    let c2 = c .before .before in
+    let c4 = c2 .before .before in
+    let c6 = c4 .before .before in
+    let c7 = c6 .before in
+    let a = c7 .before .before .before .args in
+    close-sound (now (a .register)) _ (c7 .register-ok .result) (c4 .group-count .result) (c7 .register-ok .ensures) (c6 .if1 .left)
+    (c2 .close-groups .ensures) (c4 .group-count .ensures)
 
 pub close-quotas-spec : {M : Type 1} → statement M
 close-quotas-spec =

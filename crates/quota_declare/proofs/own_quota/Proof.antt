@@ -22,7 +22,14 @@ same-length c = search needs
 
 returns : tie.Need-returns
 unfolding ownQuotaAfter
-returns c = refused-step _ _ (ownQuotaRefusal (now (c .before .before .before .before .before .args .register)) (c .before .before .before .before .before .args .group) (c .before .before .before .before .before .args .quota)) 0 (putGroup (now (c .before .before .before .before .before .args .register)) (c .before .before .before .before .before .args .group) (ownGroup (groupAt (now (c .before .before .before .before .before .args .register)) (c .before .before .before .before .before .args .group)) (c .before .before .before .before .before .args .quota))) (now (c .before .before .before .before .before .args .register)) (c .refused-by .ensures) (c .before .before .refusal-of-own-quota .ensures) (c .before .if1 .taken)
+returns c =
+    let c1 = c .before in
+    let c2 = c1 .before in
+    let a = c2 .before .before .before .args in
+    let rs = now (a .register) in
+    refused-step _ _ (ownQuotaRefusal rs (a .group) (a .quota)) 0
+    (putGroup rs (a .group) (ownGroup (groupAt rs (a .group)) (a .quota)))
+    rs (c .refused-by .ensures) (c2 .refusal-of-own-quota .ensures) (c1 .if1 .taken)
 
 group-at-requires : tie.Need-group-at-requires
 group-at-requires c κs = search needs
@@ -41,7 +48,19 @@ same-length-2 c = search needs
 
 returns-2 : tie.Need-returns-2
 unfolding ownQuotaAfter
-returns-2 c = accepted-step _ _ (ownQuotaRefusal (now (c .before .before .before .before .before .before .before .before .before .before .before .before .args .register)) (c .before .before .before .before .before .before .before .before .before .before .before .before .args .group) (c .before .before .before .before .before .before .before .before .before .before .before .before .args .quota)) 0 _ (putGroup (now (c .before .before .before .before .before .before .before .before .before .before .before .before .args .register)) (c .before .before .before .before .before .before .before .before .before .before .before .before .args .group) (ownGroup (groupAt (now (c .before .before .before .before .before .before .before .before .before .before .before .before .args .register)) (c .before .before .before .before .before .before .before .before .before .before .before .before .args .group)) (c .before .before .before .before .before .before .before .before .before .before .before .before .args .quota))) (now (c .before .before .before .before .before .before .before .before .before .before .before .before .args .register)) (c .accepted-as .ensures) (c .before .before .before .before .before .before .before .before .before .refusal-of-own-quota .ensures) (c .before .before .before .before .before .before .before .before .if1 .left) (c .before .before .before .put-group .ensures ∙ ap (putGroup (now (c .before .before .before .before .before .before .before .before .before .before .before .before .args .register)) (c .before .before .before .before .before .before .before .before .before .before .before .before .args .group)) (c .before .before .before .before .own-group .ensures ∙ ap (λ z. ownGroup z (c .before .before .before .before .before .before .before .before .before .before .before .before .args .quota)) (c .before .before .before .before .before .before .group-at .ensures)))
+returns-2 c =
+    let c3 = c .before .before .before in
+    let c4 = c3 .before in
+    let c6 = c4 .before .before in
+    let c8 = c6 .before .before in
+    let c9 = c8 .before in
+    let a = c9 .before .before .before .args in
+    let rs = now (a .register) in
+    accepted-step _ _ (ownQuotaRefusal rs (a .group) (a .quota)) 0 _
+    (putGroup rs (a .group) (ownGroup (groupAt rs (a .group)) (a .quota)))
+    rs (c .accepted-as .ensures) (c9 .refusal-of-own-quota .ensures) (c8 .if1 .left)
+    (c3 .put-group .ensures ∙ ap (putGroup rs (a .group))
+    (c4 .own-group .ensures ∙ ap (λ z. ownGroup z (a .quota)) (c6 .group-at .ensures)))
 
 pub own-quota-spec : {M : Type 1} → statement M
 own-quota-spec =

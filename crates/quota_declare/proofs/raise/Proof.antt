@@ -22,7 +22,15 @@ same-length c = search needs
 
 returns : tie.Need-returns
 unfolding raiseAfter
-returns c = refused-step _ _ (raiseRefusal (now (c .before .before .before .before .before .args .register)) (c .before .before .before .before .before .args .declarer) (c .before .before .before .before .before .args .group) (c .before .before .before .before .before .args .quota) (c .before .before .before .before .before .args .flag)) 0 (putGroup (now (c .before .before .before .before .before .args .register)) (c .before .before .before .before .before .args .group) (raisedGroup (groupAt (now (c .before .before .before .before .before .args .register)) (c .before .before .before .before .before .args .group)) (c .before .before .before .before .before .args .declarer) (c .before .before .before .before .before .args .quota))) (now (c .before .before .before .before .before .args .register)) (c .refused-by .ensures) (c .before .before .refusal-of-raise .ensures) (c .before .if1 .taken)
+returns c =
+    let c1 = c .before in
+    let c2 = c1 .before in
+    let a = c2 .before .before .before .args in
+    let rs = now (a .register) in
+    refused-step _ _
+    (raiseRefusal rs (a .declarer) (a .group) (a .quota) (a .flag)) 0
+    (putGroup rs (a .group) (raisedGroup (groupAt rs (a .group)) (a .declarer) (a .quota)))
+    rs (c .refused-by .ensures) (c2 .refusal-of-raise .ensures) (c1 .if1 .taken)
 
 group-at-requires : tie.Need-group-at-requires
 group-at-requires c κs = search needs
@@ -41,7 +49,20 @@ same-length-2 c = search needs
 
 returns-2 : tie.Need-returns-2
 unfolding raiseAfter
-returns-2 c = accepted-step _ _ (raiseRefusal (now (c .before .before .before .before .before .before .before .before .before .before .before .before .args .register)) (c .before .before .before .before .before .before .before .before .before .before .before .before .args .declarer) (c .before .before .before .before .before .before .before .before .before .before .before .before .args .group) (c .before .before .before .before .before .before .before .before .before .before .before .before .args .quota) (c .before .before .before .before .before .before .before .before .before .before .before .before .args .flag)) 0 _ (putGroup (now (c .before .before .before .before .before .before .before .before .before .before .before .before .args .register)) (c .before .before .before .before .before .before .before .before .before .before .before .before .args .group) (raisedGroup (groupAt (now (c .before .before .before .before .before .before .before .before .before .before .before .before .args .register)) (c .before .before .before .before .before .before .before .before .before .before .before .before .args .group)) (c .before .before .before .before .before .before .before .before .before .before .before .before .args .declarer) (c .before .before .before .before .before .before .before .before .before .before .before .before .args .quota))) (now (c .before .before .before .before .before .before .before .before .before .before .before .before .args .register)) (c .accepted-as .ensures) (c .before .before .before .before .before .before .before .before .before .refusal-of-raise .ensures) (c .before .before .before .before .before .before .before .before .if1 .left) (c .before .before .before .put-group .ensures ∙ ap (putGroup (now (c .before .before .before .before .before .before .before .before .before .before .before .before .args .register)) (c .before .before .before .before .before .before .before .before .before .before .before .before .args .group)) (c .before .before .before .before .raised-group .ensures ∙ ap (λ z. raisedGroup z (c .before .before .before .before .before .before .before .before .before .before .before .before .args .declarer) (c .before .before .before .before .before .before .before .before .before .before .before .before .args .quota)) (c .before .before .before .before .before .before .group-at .ensures)))
+returns-2 c =
+    let c3 = c .before .before .before in
+    let c4 = c3 .before in
+    let c6 = c4 .before .before in
+    let c8 = c6 .before .before in
+    let c9 = c8 .before in
+    let a = c9 .before .before .before .args in
+    let rs = now (a .register) in
+    accepted-step _ _
+    (raiseRefusal rs (a .declarer) (a .group) (a .quota) (a .flag)) 0 _
+    (putGroup rs (a .group) (raisedGroup (groupAt rs (a .group)) (a .declarer) (a .quota)))
+    rs (c .accepted-as .ensures) (c9 .refusal-of-raise .ensures) (c8 .if1 .left)
+    (c3 .put-group .ensures ∙ ap (putGroup rs (a .group))
+    (c4 .raised-group .ensures ∙ ap (λ z. raisedGroup z (a .declarer) (a .quota)) (c6 .group-at .ensures)))
 
 pub raise-spec : {M : Type 1} → statement M
 raise-spec =

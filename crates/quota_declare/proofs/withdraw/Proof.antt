@@ -22,7 +22,14 @@ same-length c = search needs
 
 returns : tie.Need-returns
 unfolding withdrawAfter
-returns c = refused-step _ _ (withdrawRefusal (now (c .before .before .before .before .before .args .register)) (c .before .before .before .before .before .args .declarer) (c .before .before .before .before .before .args .group)) 0 (putGroup (now (c .before .before .before .before .before .args .register)) (c .before .before .before .before .before .args .group) (filedGroup (groupAt (now (c .before .before .before .before .before .args .register)) (c .before .before .before .before .before .args .group)))) (now (c .before .before .before .before .before .args .register)) (c .refused-by .ensures) (c .before .before .refusal-of-withdraw .ensures) (c .before .if1 .taken)
+returns c =
+    let c1 = c .before in
+    let c2 = c1 .before in
+    let a = c2 .before .before .before .args in
+    let rs = now (a .register) in
+    refused-step _ _ (withdrawRefusal rs (a .declarer) (a .group)) 0
+    (putGroup rs (a .group) (filedGroup (groupAt rs (a .group))))
+    rs (c .refused-by .ensures) (c2 .refusal-of-withdraw .ensures) (c1 .if1 .taken)
 
 group-at-requires : tie.Need-group-at-requires
 group-at-requires c κs = search needs
@@ -41,7 +48,18 @@ same-length-2 c = search needs
 
 returns-2 : tie.Need-returns-2
 unfolding withdrawAfter
-returns-2 c = accepted-step _ _ (withdrawRefusal (now (c .before .before .before .before .before .before .before .before .before .before .before .before .args .register)) (c .before .before .before .before .before .before .before .before .before .before .before .before .args .declarer) (c .before .before .before .before .before .before .before .before .before .before .before .before .args .group)) 0 _ (putGroup (now (c .before .before .before .before .before .before .before .before .before .before .before .before .args .register)) (c .before .before .before .before .before .before .before .before .before .before .before .before .args .group) (filedGroup (groupAt (now (c .before .before .before .before .before .before .before .before .before .before .before .before .args .register)) (c .before .before .before .before .before .before .before .before .before .before .before .before .args .group)))) (now (c .before .before .before .before .before .before .before .before .before .before .before .before .args .register)) (c .accepted-as .ensures) (c .before .before .before .before .before .before .before .before .before .refusal-of-withdraw .ensures) (c .before .before .before .before .before .before .before .before .if1 .left) (c .before .before .before .put-group .ensures ∙ ap (putGroup (now (c .before .before .before .before .before .before .before .before .before .before .before .before .args .register)) (c .before .before .before .before .before .before .before .before .before .before .before .before .args .group)) (c .before .before .before .before .filed-group .ensures ∙ ap (λ z. filedGroup z) (c .before .before .before .before .before .before .group-at .ensures)))
+returns-2 c =
+    let c3 = c .before .before .before in
+    let c4 = c3 .before in
+    let c6 = c4 .before .before in
+    let c8 = c6 .before .before in
+    let c9 = c8 .before in
+    let a = c9 .before .before .before .args in
+    let rs = now (a .register) in
+    accepted-step _ _ (withdrawRefusal rs (a .declarer) (a .group)) 0 _
+    (putGroup rs (a .group) (filedGroup (groupAt rs (a .group))))
+    rs (c .accepted-as .ensures) (c9 .refusal-of-withdraw .ensures) (c8 .if1 .left)
+    (c3 .put-group .ensures ∙ ap (putGroup rs (a .group)) (c4 .filed-group .ensures ∙ ap (λ z. filedGroup z) (c6 .group-at .ensures)))
 
 pub withdraw-spec : {M : Type 1} → statement M
 withdraw-spec =

@@ -21,7 +21,13 @@ same-length c = search needs
 
 returns : tie.Need-returns
 unfolding attachAfter
-returns c = refused-step _ _ (attachRefusal (now (c .before .before .before .before .before .args .register)) (c .before .before .before .before .before .args .unit) (c .before .before .before .before .before .args .group)) 0 (addUnit (now (c .before .before .before .before .before .args .register)) (c .before .before .before .before .before .args .unit) (c .before .before .before .before .before .args .group)) (now (c .before .before .before .before .before .args .register)) (c .refused-by .ensures) (c .before .before .refusal-of-attach .ensures) (c .before .if1 .taken)
+returns c =
+    let c1 = c .before in
+    let c2 = c1 .before in
+    let a = c2 .before .before .before .args in
+    let rs = now (a .register) in
+    refused-step _ _ (attachRefusal rs (a .unit) (a .group)) 0 (addUnit rs (a .unit) (a .group)) rs (c .refused-by .ensures)
+    (c2 .refusal-of-attach .ensures) (c1 .if1 .taken)
 
 add-unit-requires : tie.Need-add-unit-requires
 add-unit-requires c κs = search needs
@@ -34,7 +40,14 @@ same-length-2 c = search needs
 
 returns-2 : tie.Need-returns-2
 unfolding attachAfter
-returns-2 c = accepted-step _ _ (attachRefusal (now (c .before .before .before .before .before .before .before .before .before .args .register)) (c .before .before .before .before .before .before .before .before .before .args .unit) (c .before .before .before .before .before .before .before .before .before .args .group)) 0 _ (addUnit (now (c .before .before .before .before .before .before .before .before .before .args .register)) (c .before .before .before .before .before .before .before .before .before .args .unit) (c .before .before .before .before .before .before .before .before .before .args .group)) (now (c .before .before .before .before .before .before .before .before .before .args .register)) (c .accepted-as .ensures) (c .before .before .before .before .before .before .refusal-of-attach .ensures) (c .before .before .before .before .before .if1 .left) (c .before .before .before .add-unit .ensures)
+returns-2 c =
+    let c3 = c .before .before .before in
+    let c5 = c3 .before .before in
+    let c6 = c5 .before in
+    let a = c6 .before .before .before .args in
+    let rs = now (a .register) in
+    accepted-step _ _ (attachRefusal rs (a .unit) (a .group)) 0 _ (addUnit rs (a .unit) (a .group)) rs (c .accepted-as .ensures)
+    (c6 .refusal-of-attach .ensures) (c5 .if1 .left) (c3 .add-unit .ensures)
 
 pub attach-spec : {M : Type 1} → statement M
 attach-spec =

@@ -21,7 +21,13 @@ same-length c = search needs
 
 returns : tie.Need-returns
 unfolding detachAfter
-returns c = refused-step _ _ (detachRefusal (now (c .before .before .before .before .before .args .register)) (c .before .before .before .before .before .args .unit)) 0 (removeUnit (now (c .before .before .before .before .before .args .register)) (c .before .before .before .before .before .args .unit)) (now (c .before .before .before .before .before .args .register)) (c .refused-by .ensures) (c .before .before .refusal-of-detach .ensures) (c .before .if1 .taken)
+returns c =
+    let c1 = c .before in
+    let c2 = c1 .before in
+    let a = c2 .before .before .before .args in
+    let rs = now (a .register) in
+    refused-step _ _ (detachRefusal rs (a .unit)) 0 (removeUnit rs (a .unit)) rs (c .refused-by .ensures) (c2 .refusal-of-detach .ensures)
+    (c1 .if1 .taken)
 
 remove-unit-requires : tie.Need-remove-unit-requires
 remove-unit-requires c κs = search needs
@@ -34,7 +40,14 @@ same-length-2 c = search needs
 
 returns-2 : tie.Need-returns-2
 unfolding detachAfter
-returns-2 c = accepted-step _ _ (detachRefusal (now (c .before .before .before .before .before .before .before .before .before .args .register)) (c .before .before .before .before .before .before .before .before .before .args .unit)) 0 _ (removeUnit (now (c .before .before .before .before .before .before .before .before .before .args .register)) (c .before .before .before .before .before .before .before .before .before .args .unit)) (now (c .before .before .before .before .before .before .before .before .before .args .register)) (c .accepted-as .ensures) (c .before .before .before .before .before .before .refusal-of-detach .ensures) (c .before .before .before .before .before .if1 .left) (c .before .before .before .remove-unit .ensures)
+returns-2 c =
+    let c3 = c .before .before .before in
+    let c5 = c3 .before .before in
+    let c6 = c5 .before in
+    let a = c6 .before .before .before .args in
+    let rs = now (a .register) in
+    accepted-step _ _ (detachRefusal rs (a .unit)) 0 _ (removeUnit rs (a .unit)) rs (c .accepted-as .ensures)
+    (c6 .refusal-of-detach .ensures) (c5 .if1 .left) (c3 .remove-unit .ensures)
 
 pub detach-spec : {M : Type 1} → statement M
 detach-spec =

@@ -23,7 +23,13 @@ same-length c = search needs
 
 returns : tie.Need-returns
 unfolding enrolAfter enrolAnswer
-returns c = refused-step _ _ (enrolRefusal (now (c .before .before .before .before .before .args .register)) (c .before .before .before .before .before .args .code) (c .before .before .before .before .before .args .class)) (groupCount (now (c .before .before .before .before .before .args .register))) (addGroup (now (c .before .before .before .before .before .args .register)) (freshGroup (c .before .before .before .before .before .args .code) (c .before .before .before .before .before .args .class))) (now (c .before .before .before .before .before .args .register)) (c .refused-by .ensures) (c .before .before .refusal-of-enrol .ensures) (c .before .if1 .taken)
+returns c =
+    let c1 = c .before in
+    let c2 = c1 .before in
+    let a = c2 .before .before .before .args in
+    let rs = now (a .register) in
+    refused-step _ _ (enrolRefusal rs (a .code) (a .class)) (groupCount rs) (addGroup rs (freshGroup (a .code) (a .class))) rs
+    (c .refused-by .ensures) (c2 .refusal-of-enrol .ensures) (c1 .if1 .taken)
 
 group-count-requires : tie.Need-group-count-requires
 group-count-requires c κs = search needs
@@ -42,7 +48,18 @@ same-length-2 c = search needs
 
 returns-2 : tie.Need-returns-2
 unfolding enrolAfter enrolAnswer
-returns-2 c = accepted-step _ _ (enrolRefusal (now (c .before .before .before .before .before .before .before .before .before .before .before .before .args .register)) (c .before .before .before .before .before .before .before .before .before .before .before .before .args .code) (c .before .before .before .before .before .before .before .before .before .before .before .before .args .class)) (groupCount (now (c .before .before .before .before .before .before .before .before .before .before .before .before .args .register))) _ (addGroup (now (c .before .before .before .before .before .before .before .before .before .before .before .before .args .register)) (freshGroup (c .before .before .before .before .before .before .before .before .before .before .before .before .args .code) (c .before .before .before .before .before .before .before .before .before .before .before .before .args .class))) (now (c .before .before .before .before .before .before .before .before .before .before .before .before .args .register)) (c .accepted-as .ensures ∙ ap accepted (c .before .before .before .before .before .before .group-count .ensures)) (c .before .before .before .before .before .before .before .before .before .refusal-of-enrol .ensures) (c .before .before .before .before .before .before .before .before .if1 .left) (c .before .before .before .add-group .ensures ∙ ap (addGroup (now (c .before .before .before .before .before .before .before .before .before .before .before .before .args .register))) (c .before .before .before .before .fresh-group .ensures))
+returns-2 c =
+    let c3 = c .before .before .before in
+    let c4 = c3 .before in
+    let c6 = c4 .before .before in
+    let c8 = c6 .before .before in
+    let c9 = c8 .before in
+    let a = c9 .before .before .before .args in
+    let rs = now (a .register) in
+    accepted-step _ _ (enrolRefusal rs (a .code) (a .class)) (groupCount rs) _ (addGroup rs (freshGroup (a .code) (a .class))) rs
+    (c .accepted-as .ensures ∙ ap accepted (c6 .group-count .ensures))
+    (c9 .refusal-of-enrol .ensures) (c8 .if1 .left)
+    (c3 .add-group .ensures ∙ ap (addGroup rs) (c4 .fresh-group .ensures))
 
 pub enrol-spec : {M : Type 1} → statement M
 enrol-spec =

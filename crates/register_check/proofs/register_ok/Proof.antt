@@ -45,7 +45,22 @@ units-ok-requires c κs = search needs
 
 returns-4 : tie.Need-returns-4
 unfolding registerOk
-returns-4 c = rw (c .units-ok .ensures, c .before .declared-ok .ensures, c .before .before .all-scalars-ok .ensures, columns (now (c .before .before .before .before .before .before .before .before .before .args .register)) (c .before .before .before .before .before .before .before .if1 .left) _ (c .before .before .before .before .if2 .left), eq-eqb _ _ (c .before .before .before .before .before .before .before .if1 .left), le-leb _ _ (c .before .before .before .before .if2 .left), le-leb _ _ (c .before .before .before .if3 .left))
+returns-4 c =
+    let c1 = c .before in
+    let c2 = c1 .before in
+    let c3 = c2 .before in
+    let c4 = c3 .before in
+    let c7 = c4 .before .before .before in
+    let a = c7 .before .before .args in
+    rw (
+      c .units-ok .ensures,
+      c1 .declared-ok .ensures,
+      c2 .all-scalars-ok .ensures,
+      columns (now (a .register)) (c7 .if1 .left) _ (c4 .if2 .left),
+      eq-eqb _ _ (c7 .if1 .left),
+      le-leb _ _ (c4 .if2 .left),
+      le-leb _ _ (c3 .if3 .left),
+    )
 
 pub register-ok-spec : {M : Type 1} → statement M
 register-ok-spec =

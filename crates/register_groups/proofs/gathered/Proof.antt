@@ -45,7 +45,17 @@ loop-less : tie.Need-loop-less Inv-loop μ-loop
 loop-less c = search needs
 
 loop-again : tie.Need-loop-again Inv-loop μ-loop
-loop-again c = (omega arith, simp length-set (c .before .before .before .before .loop .inv .1), gathered-turn (now (c .before .before .before .before .before .before .args .register)) (c .before .before .before .before .before .before .args .i) _ (c .before .before .before .before .loop .k) _ (c .before .before .before .before .loop .inv .1) (c .before .before .before .loop-test .taken) (c .before .before .before .before .loop .inv .2) (c .wide .ensures .0 ∙ ap (λ z. getD (now (c .before .before .before .before .before .before .args .register)) z 0) (c .before .before .place .ensures)))
+loop-again c =
+    let c2 = c .before .before in
+    let c3 = c2 .before in
+    let a = c3 .before .before .before .args in
+    let l = c3 .before .loop in
+    let rs = now (a .register) in (
+      omega arith,
+      simp length-set (l .inv .1),
+      gathered-turn rs (a .i) _ (l .k) _ (l .inv .1) (c3 .loop-test .taken) (l .inv .2)
+          (c .wide .ensures .0 ∙ ap (λ z. getD rs z 0) (c2 .place .ensures)),
+    )
 
 returns : tie.Need-returns Inv-loop μ-loop
 returns c = gathered-all (now (c .before .before .before .args .register)) (c .before .before .before .args .i) _ (c .before .loop .k) (c .before .before .before .pre .1) (c .before .before .before .pre .0) (c .before .loop .inv .1) (c .loop-test .left) (c .before .loop .inv .2)

@@ -35,7 +35,14 @@ same-length c = search needs
 
 -- src/lib.rt:182:1
 returns-3 : tie.Need-returns-3
-returns-3 c = put-step (now (c .before .before .before .before .before .before .before .before .before .args .register)) (c .before .before .before .before .before .before .before .before .before .args .i) (c .before .before .before .before .before .before .before .before .before .args .group) _ (c .before .before .before .before .before .words-of .result) (c .before .before .before .before .before .before .before .if1 .left) (c .before .before .before .before .before .before .if2 .left) (c .before .before .before .before .before .words-of .ensures) (c .before .before .scatter .ensures)
+returns-3 c =
+    let c2 = c .before .before in
+    let c5 = c2 .before .before .before in
+    let c6 = c5 .before in
+    let c7 = c6 .before in
+    let a = c7 .before .before .args in
+    put-step (now (a .register)) (a .i) (a .group) _ (c5 .words-of .result) (c7 .if1 .left) (c6 .if2 .left) (c5 .words-of .ensures)
+    (c2 .scatter .ensures)
 
 pub put-group-spec : {M : Type 1} → statement M
 put-group-spec =

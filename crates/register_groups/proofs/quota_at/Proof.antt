@@ -91,7 +91,19 @@ emergency-of-requires : tie.Need-emergency-of-requires
 emergency-of-requires c κs = search needs
 
 returns-3 : tie.Need-returns-3
-returns-3 c = quota-step (now (c .before .before .before .before .before .before .before .before .before .before .before .before .before .before .args .register)) (c .before .before .before .before .before .before .before .before .before .before .before .before .before .before .args .i) _ _ _ (c .before .before .before .before .before .before .before .before .before .wide .result) (c .before .before .before .before .before .before .before .wide2 .result) (c .before .before .before .before .before .wide3 .result) (c .before .before .before .wide4 .result) (c .before .before .before .before .before .before .before .before .before .before .before .before .if1 .left) (c .before .before .before .before .before .before .before .before .before .before .before .if2 .left) (c .before .before .before .before .before .before .before .before .before .wide .ensures .0) (c .before .before .before .before .before .before .before .wide2 .ensures .0) (c .before .before .before .before .before .wide3 .ensures .0) (c .before .before .before .wide4 .ensures .0) (c .before .before .limit-of .ensures) (c .before .limit-of2 .ensures) (c .emergency-of .ensures)
+returns-3 c =
+    let c1 = c .before in
+    let c2 = c1 .before in
+    let c3 = c2 .before in
+    let c5 = c3 .before .before in
+    let c7 = c5 .before .before in
+    let c9 = c7 .before .before in
+    let c11 = c9 .before .before in
+    let c12 = c11 .before in
+    let a = c12 .before .before .args in
+    quota-step (now (a .register)) (a .i) _ _ _ (c9 .wide .result) (c7 .wide2 .result) (c5 .wide3 .result) (c3 .wide4 .result)
+    (c12 .if1 .left) (c11 .if2 .left) (c9 .wide .ensures .0) (c7 .wide2 .ensures .0) (c5 .wide3 .ensures .0) (c3 .wide4 .ensures .0)
+    (c2 .limit-of .ensures) (c1 .limit-of2 .ensures) (c .emergency-of .ensures)
 
 pub quota-at-spec : {M : Type 1} → statement M
 quota-at-spec =

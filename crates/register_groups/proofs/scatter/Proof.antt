@@ -45,7 +45,14 @@ loop-less : tie.Need-loop-less Inv-loop μ-loop
 loop-less c = search needs
 
 loop-again : tie.Need-loop-again Inv-loop μ-loop
-loop-again c = (omega arith, simp length-set (c .before .before .before .before .loop .inv .1), puts-turn (now (c .before .before .before .before .before .before .args .register)) (c .before .before .before .before .before .before .args .i) (now (c .before .before .before .before .before .before .args .r)) (c .before .before .before .before .loop .k) _ _ _ (c .before .before .before .before .loop .inv .2) (c .before .before .place .ensures) (c .low .ensures))
+loop-again c =
+    let c2 = c .before .before in
+    let a = c2 .before .before .before .before .args in
+    let l = c2 .before .before .loop in (
+      omega arith,
+      simp length-set (l .inv .1),
+      puts-turn (now (a .register)) (a .i) (now (a .r)) (l .k) _ _ _ (l .inv .2) (c2 .place .ensures) (c .low .ensures),
+    )
 
 same-length : tie.Need-same-length Inv-loop μ-loop
 same-length c = search needs

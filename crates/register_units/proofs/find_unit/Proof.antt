@@ -40,8 +40,14 @@ mul-wide c = search needs
 
 shared-slice-read-wide-2 : tie.Need-shared-slice-read-wide-2
 shared-slice-read-wide-2 c =
-    let e = c .before .before .before .before .wide .ensures .0 in
-    let h : c .before .before .place-of .result < 256 = place-short (now (c .before .before .before .before .before .before .before .before .args .register)) (c .before .before .before .before .before .before .before .before .args .unit) (c .before .before .place-of .result) (c .before .before .before .before .before .before .if1 .left) (rw e at (c .before .before .place-of .ensures)) (rw e at (c .before .if2 .taken)) in
+    let c1 = c .before in
+    let c2 = c1 .before in
+    let c4 = c2 .before .before in
+    let c6 = c4 .before .before in
+    let a = c6 .before .before .args in
+    let e = c4 .wide .ensures .0 in
+    let h : c2 .place-of .result < 256 = place-short (now (a .register)) (a .unit) (c2 .place-of .result) (c6 .if1 .left)
+    (rw e at (c2 .place-of .ensures)) (rw e at (c1 .if2 .taken)) in
     omega arith
 
 wide-requires-2 : tie.Need-wide-requires-2

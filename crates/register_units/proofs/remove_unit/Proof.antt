@@ -74,7 +74,16 @@ same-length-2 : tie.Need-same-length-2
 same-length-2 c = removed-length (now (c .before .before .before .before .before .before .before .before .before .before .before .before .before .before .before .before .args .register)) _ _ _ _ _ (c .before .before .before .before .before .before .remove-word .ensures) (c .before .before .remove-word2 .ensures)
 
 returns-4 : tie.Need-returns-4
-returns-4 c = remove-unit-step (now (c .before .before .before .before .before .before .before .before .before .before .before .before .before .before .before .before .args .register)) (c .before .before .before .before .before .before .before .before .before .before .before .before .before .before .before .before .args .unit) (c .before .before .before .before .before .before .before .before .before .place-of .result) (c .before .before .before .before .before .before .before .before .before .before .before .before .before .before .if1 .left) (c .before .before .before .before .before .before .before .before .before .before .before .before .if2 .left) (c .before .before .before .before .before .before .before .before .before .place-of .ensures) (c .before .before .before .before .before .before .before .before .if3 .left) _ _ _ (c .before .before .before .before .before .before .remove-word .ensures) refl (c .before .before .remove-word2 .ensures)
+returns-4 c =
+    let c2 = c .before .before in
+    let c6 = c2 .before .before .before .before in
+    let c8 = c6 .before .before in
+    let c9 = c8 .before in
+    let c12 = c9 .before .before .before in
+    let c14 = c12 .before .before in
+    let a = c14 .before .before .args in
+    remove-unit-step (now (a .register)) (a .unit) (c9 .place-of .result) (c14 .if1 .left) (c12 .if2 .left) (c9 .place-of .ensures)
+    (c8 .if3 .left) _ _ _ (c6 .remove-word .ensures) refl (c2 .remove-word2 .ensures)
 
 pub remove-unit-spec : {M : Type 1} → statement M
 remove-unit-spec =

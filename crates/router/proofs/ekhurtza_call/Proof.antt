@@ -23,7 +23,13 @@ same-length-3 : tie.Need-same-length-3
 same-length-3 c = search needs
 
 returns : tie.Need-returns
-returns c = called (memory (now (c .before .before .before .before .before .before .before .before .before .before .before .before .before .before .args .register)) (now (c .before .before .before .before .before .before .before .before .before .before .before .before .before .before .args .book)) (now (c .before .before .before .before .before .before .before .before .before .before .before .before .before .before .args .places))) _ (c .before .before .before .before .before .before .before .before .before .before .call-of .result) (callOf (c .before .before .before .before .before .before .before .before .before .before .before .before .before .before .args .code) (c .before .before .before .before .before .before .before .before .before .before .before .before .before .before .args .a) (c .before .before .before .before .before .before .before .before .before .before .before .before .before .before .args .b) (c .before .before .before .before .before .before .before .before .before .before .before .before .before .before .args .c) (c .before .before .before .before .before .before .before .before .before .before .before .before .before .before .args .d)) (c .before .before .before .before .before .before .call .result) (c .before .before .before .before .before .before .before .before .before .before .call-of .ensures) (c .before .before .before .before .before .before .call .ensures .0) (c .before .before .before .before .before .before .call .ensures .1)
+returns c =
+    let c6 = c .before .before .before .before .before .before in
+    let c10 = c6 .before .before .before .before in
+    let a = c10 .before .before .before .before .args in
+    called (memory (now (a .register)) (now (a .book)) (now (a .places))) _
+    (c10 .call-of .result) (callOf (a .code) (a .a) (a .b) (a .c) (a .d)) (c6 .call .result) (c10 .call-of .ensures) (c6 .call .ensures .0)
+    (c6 .call .ensures .1)
 
 pub ekhurtza-call-spec : {M : Type 1} → statement M
 ekhurtza-call-spec =

@@ -15,19 +15,44 @@ same-length : tie.Need-same-length
 same-length c = search needs
 
 returns : tie.Need-returns
-returns c = (c .before .before .before .write .ensures .0, (none-listed (now (c .before .before .before .before .before .before .before .before .before .args .register)) (now (c .before .before .before .before .before .before .before .before .before .args .book)) (now (c .before .before .before .before .before .before .before .before .before .args .places)) (length (now (c .before .before .before .before .before .before .before .before .before .args .buffer))) (c .before .before .before .write .result) (c .before .before .before .write .ensures .0) (c .if1 .taken), c .before .before .before .write .ensures .1))
+returns c =
+    let c3 = c .before .before .before in
+    let a = c3 .before .before .before .before .before .before .args in (
+      c3 .write .ensures .0,
+      (
+        none-listed (now (a .register)) (now (a .book)) (now (a .places)) (length (now (a .buffer))) (c3 .write .result) (c3 .write .ensures .0)
+            (c .if1 .taken),
+        c3 .write .ensures .1,
+      ),
+    )
 
 groups-enrolled-requires : tie.Need-groups-enrolled-requires
 groups-enrolled-requires c κs = search needs
 
 mul-t10 : tie.Need-mul-t10
-mul-t10 c = let k = listed-fits (now (c .before .before .before .before .before .before .before .before .before .before .args .register)) (now (c .before .before .before .before .before .before .before .before .before .before .args .book)) (now (c .before .before .before .before .before .before .before .before .before .before .args .places)) (length (now (c .before .before .before .before .before .before .before .before .before .before .args .buffer))) (c .before .before .before .before .write .result) (c .before .before .before .before .write .ensures .0) (c .before .if1 .left) (c .groups-enrolled .result) (c .groups-enrolled .ensures) in omega arith
+mul-t10 c =
+    let c1 = c .before in
+    let c4 = c1 .before .before .before in
+    let a = c4 .before .before .before .before .before .before .args in
+    let k = listed-fits (now (a .register)) (now (a .book)) (now (a .places)) (length (now (a .buffer))) (c4 .write .result)
+    (c4 .write .ensures .0) (c1 .if1 .left) (c .groups-enrolled .result) (c .groups-enrolled .ensures) in
+    omega arith
 
 same-length-2 : tie.Need-same-length-2
 same-length-2 c = search needs
 
 returns-2 : tie.Need-returns-2
-returns-2 c = (sym (c .before .if1 .left) ∙ c .before .before .before .before .write .ensures .0, (all-listed (now (c .before .before .before .before .before .before .before .before .before .before .args .register)) (now (c .before .before .before .before .before .before .before .before .before .before .args .book)) (now (c .before .before .before .before .before .before .before .before .before .before .args .places)) (length (now (c .before .before .before .before .before .before .before .before .before .before .args .buffer))) (c .before .before .before .before .write .result) (c .before .before .before .before .write .ensures .0) (c .before .if1 .left) (c .groups-enrolled .result) (c .groups-enrolled .ensures), c .before .before .before .before .write .ensures .1))
+returns-2 c =
+    let c1 = c .before in
+    let c4 = c1 .before .before .before in
+    let a = c4 .before .before .before .before .before .before .args in (
+      sym (c1 .if1 .left) ∙ c4 .write .ensures .0,
+      (
+        all-listed (now (a .register)) (now (a .book)) (now (a .places)) (length (now (a .buffer))) (c4 .write .result) (c4 .write .ensures .0)
+            (c1 .if1 .left) (c .groups-enrolled .result) (c .groups-enrolled .ensures),
+        c4 .write .ensures .1,
+      ),
+    )
 
 pub ekhurtza-listing-spec : {M : Type 1} → statement M
 ekhurtza-listing-spec =

@@ -10,10 +10,19 @@ row-of-requires : tie.Need-row-of-requires
 row-of-requires c κs = search needs
 
 returns : tie.Need-returns
-returns c = row-refused (now (c .before .before .before .before .before .before .before .args .register)) (now (c .before .before .before .before .before .before .before .args .book)) (now (c .before .before .before .before .before .before .before .args .places)) (now (c .before .before .before .before .before .before .before .args .out)) (c .before .before .before .before .before .before .before .args .group) (c .before .before .row-of .result) (c .before .before .row-of .ensures) (c .if1 .taken)
+returns c =
+    let c2 = c .before .before in
+    let a = c2 .before .before .before .before .before .args in
+    row-refused (now (a .register)) (now (a .book)) (now (a .places)) (now (a .out)) (a .group) (c2 .row-of .result) (c2 .row-of .ensures)
+    (c .if1 .taken)
 
 returns-2 : tie.Need-returns-2
-returns-2 c = row-short (now (c .before .before .before .before .before .before .before .before .args .register)) (now (c .before .before .before .before .before .before .before .before .args .book)) (now (c .before .before .before .before .before .before .before .before .args .places)) (now (c .before .before .before .before .before .before .before .before .args .out)) (c .before .before .before .before .before .before .before .before .args .group) (c .before .before .before .row-of .result) (c .before .before .before .row-of .ensures) (c .before .if1 .left) (c .if2 .taken)
+returns-2 c =
+    let c1 = c .before in
+    let c3 = c1 .before .before in
+    let a = c3 .before .before .before .before .before .args in
+    row-short (now (a .register)) (now (a .book)) (now (a .places)) (now (a .out)) (a .group) (c3 .row-of .result) (c3 .row-of .ensures)
+    (c1 .if1 .left) (c .if2 .taken)
 
 put-row-requires : tie.Need-put-row-requires
 put-row-requires c κs = search needs
@@ -22,7 +31,14 @@ same-length : tie.Need-same-length
 same-length c = search needs
 
 returns-3 : tie.Need-returns-3
-returns-3 c = row-handed (now (c .before .before .before .before .before .before .before .before .before .before .before .before .before .args .register)) (now (c .before .before .before .before .before .before .before .before .before .before .before .before .before .args .book)) (now (c .before .before .before .before .before .before .before .before .before .before .before .before .before .args .places)) (now (c .before .before .before .before .before .before .before .before .before .before .before .before .before .args .out)) (c .before .before .before .before .before .before .before .before .before .before .before .before .before .args .group) (c .before .before .before .before .before .before .before .before .row-of .result) (c .before .before .before .before .before .before .before .before .row-of .ensures) (c .before .before .before .before .before .before .if1 .left) _ (c .before .before .before .before .before .before .before .before .row-of .result .row) refl (c .before .before .before .before .before .if2 .left) (c .before .before .put-row .ensures)
+returns-3 c =
+    let c2 = c .before .before in
+    let c5 = c2 .before .before .before in
+    let c6 = c5 .before in
+    let c8 = c6 .before .before in
+    let a = c8 .before .before .before .before .before .args in
+    row-handed (now (a .register)) (now (a .book)) (now (a .places)) (now (a .out)) (a .group) (c8 .row-of .result) (c8 .row-of .ensures)
+    (c6 .if1 .left) _ (c8 .row-of .result .row) refl (c5 .if2 .left) (c2 .put-row .ensures)
 
 pub ekhurtza-row-spec : {M : Type 1} → statement M
 ekhurtza-row-spec =

@@ -24,7 +24,14 @@ same-length : tie.Need-same-length
 same-length c = search needs
 
 returns : tie.Need-returns
-returns c = row-put _ (now (c .before .before .before .before .before .before .before .before .before .before .before .before .before .before .args .out)) (c .before .before .before .before .before .before .before .before .before .before .before .before .before .before .args .row) (c .before .before .before .before .before .before .before .before .before .before .before .before .limit-word .result) (c .before .before .before .before .before .before .before .before .before .before .before .limit-word2 .result) (c .before .before .before .before .before .before .before .before .before .before .sign-word .result) (c .before .before .before .before .before .before .before .before .before .before .before .before .limit-word .ensures) (c .before .before .before .before .before .before .before .before .before .before .before .limit-word2 .ensures) (c .before .before .before .before .before .before .before .before .before .before .sign-word .ensures) (c .before .before .store .ensures)
+returns c =
+    let c2 = c .before .before in
+    let c10 = c2 .before .before .before .before .before .before .before .before in
+    let c11 = c10 .before in
+    let c12 = c11 .before in
+    let a = c12 .before .before .args in
+    row-put _ (now (a .out)) (a .row) (c12 .limit-word .result) (c11 .limit-word2 .result) (c10 .sign-word .result)
+    (c12 .limit-word .ensures) (c11 .limit-word2 .ensures) (c10 .sign-word .ensures) (c2 .store .ensures)
 
 pub put-row-spec : {M : Type 1} → statement M
 put-row-spec =

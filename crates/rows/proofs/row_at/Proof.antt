@@ -18,7 +18,13 @@ shown-row-requires : tie.Need-shown-row-requires
 shown-row-requires c κs = search needs
 
 returns : tie.Need-returns
-returns c = row-at-shown (now (c .before .before .before .before .before .before .before .args .register)) (now (c .before .before .before .before .before .before .before .args .book)) (c .before .before .before .before .before .before .before .args .group) _ (c .before .before .before .before .group-at .result) (c .before .before .own-in-force-of .result) (c .before .money-at .result) (c .before .before .before .before .group-at .ensures) (c .before .before .own-in-force-of .ensures) (c .before .money-at .ensures) (c .shown-row .ensures)
+returns c =
+    let c1 = c .before in
+    let c2 = c1 .before in
+    let c4 = c2 .before .before in
+    let a = c4 .before .before .before .args in
+    row-at-shown (now (a .register)) (now (a .book)) (a .group) _ (c4 .group-at .result) (c2 .own-in-force-of .result)
+    (c1 .money-at .result) (c4 .group-at .ensures) (c2 .own-in-force-of .ensures) (c1 .money-at .ensures) (c .shown-row .ensures)
 
 pub row-at-spec : {M : Type 1} → statement M
 row-at-spec =

@@ -13,7 +13,12 @@ returns : tie.Need-returns
 returns c = kept-broken (c .before .before .before .args .row) (c .before .row-obeys .result) (c .before .row-obeys .ensures) (c .if1 .taken)
 
 net-kept-requires : tie.Need-net-kept-requires
-net-kept-requires c κs = obeyed-fits (c .before .before .before .before .args .row .code) (c .before .before .before .before .args .row .class) (c .before .before .before .before .args .row .maximum) (c .before .before .before .before .args .row .own) (c .before .before .before .before .args .row .money) (sym (c .before .before .row-obeys .ensures) ∙ not-false (c .before .before .row-obeys .result) (c .before .if1 .left))
+net-kept-requires c κs =
+    let c1 = c .before in
+    let c2 = c1 .before in
+    let a = c2 .before .before .args in
+    obeyed-fits (a .row .code) (a .row .class) (a .row .maximum) (a .row .own) (a .row .money)
+    (sym (c2 .row-obeys .ensures) ∙ not-false (c2 .row-obeys .result) (c1 .if1 .left))
 
 returns-2 : tie.Need-returns-2
 returns-2 c = kept-net (c .before .before .before .before .before .args .row) (c .before .before .before .row-obeys .result) (c .before .before .before .row-obeys .ensures) _ (c .before .before .if1 .left) (c .net-kept .ensures)

@@ -12,13 +12,23 @@ refused-row-requires : tie.Need-refused-row-requires
 refused-row-requires c κs = search needs
 
 returns : tie.Need-returns
-returns c = row-refused (now (c .before .before .before .before .before .before .args .register)) (now (c .before .before .before .before .before .before .args .book)) (now (c .before .before .before .before .before .before .args .places)) (c .before .before .before .before .before .before .args .group) (c .before .before .refusal-of-row .result) _ (c .before .before .refusal-of-row .ensures) (c .before .if1 .taken) (c .refused-row .ensures)
+returns c =
+    let c1 = c .before in
+    let c2 = c1 .before in
+    let a = c2 .before .before .before .before .args in
+    row-refused (now (a .register)) (now (a .book)) (now (a .places)) (a .group) (c2 .refusal-of-row .result) _
+    (c2 .refusal-of-row .ensures) (c1 .if1 .taken) (c .refused-row .ensures)
 
 row-at-requires : tie.Need-row-at-requires
 row-at-requires c κs = search needs
 
 returns-2 : tie.Need-returns-2
-returns-2 c = row-shown (now (c .before .before .before .before .before .before .args .register)) (now (c .before .before .before .before .before .before .args .book)) (now (c .before .before .before .before .before .before .args .places)) (c .before .before .before .before .before .before .args .group) (c .before .before .refusal-of-row .result) _ (c .before .before .refusal-of-row .ensures) (c .before .if1 .left) (c .row-at .ensures)
+returns-2 c =
+    let c1 = c .before in
+    let c2 = c1 .before in
+    let a = c2 .before .before .before .before .args in
+    row-shown (now (a .register)) (now (a .book)) (now (a .places)) (a .group) (c2 .refusal-of-row .result) _ (c2 .refusal-of-row .ensures)
+    (c1 .if1 .left) (c .row-at .ensures)
 
 pub row-of-spec : {M : Type 1} → statement M
 row-of-spec =

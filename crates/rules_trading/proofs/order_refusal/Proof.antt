@@ -34,7 +34,27 @@ first-requires-5 c κs = search needs
 
 returns : tie.Need-returns
 unfolding orderRules
-returns c = rw (c .first5 .ensures, c .before .order-in-range .ensures, c .before .before .first4 .ensures, c .before .before .before .before .first3 .ensures, c .before .before .before .before .before .is-none .ensures, c .before .before .before .before .before .before .first2 .ensures, c .before .before .before .before .before .before .before .stops-buy .ensures (amount (c .before .before .before .before .before .before .before .before .before .before .before .args .price) (c .before .before .before .before .before .before .before .before .before .before .before .args .quantity)), c .before .before .before .before .before .before .before .before .first .ensures, c .before .before .before .before .before .before .before .before .before .is-buy .ensures)
+returns c =
+    let c1 = c .before in
+    let c2 = c1 .before in
+    let c4 = c2 .before .before in
+    let c5 = c4 .before in
+    let c6 = c5 .before in
+    let c7 = c6 .before in
+    let c8 = c7 .before in
+    let c9 = c8 .before in
+    let a = c9 .before .before .args in
+    rw (
+      c .first5 .ensures,
+      c1 .order-in-range .ensures,
+      c2 .first4 .ensures,
+      c4 .first3 .ensures,
+      c5 .is-none .ensures,
+      c6 .first2 .ensures,
+      c7 .stops-buy .ensures (amount (a .price) (a .quantity)),
+      c8 .first .ensures,
+      c9 .is-buy .ensures,
+    )
 
 pub order-refusal-spec : {M : Type 1} → statement M
 order-refusal-spec =

@@ -27,7 +27,15 @@ used-or-zero-requires-4 : tie.Need-used-or-zero-requires-4
 used-or-zero-requires-4 c κs = search needs
 
 returns-3 : tie.Need-returns-3
-returns-3 c = code-given (c .before .before .before .before .before .before .before .before .before .args .w) (c .before .before .before .before .fields .result) (c .before .before .before .used-or-zero .result) (c .before .before .used-or-zero2 .result) (c .before .used-or-zero3 .result) (c .used-or-zero4 .result) (omega arith) (omega arith) (c .before .before .before .before .fields .ensures) (c .before .before .before .used-or-zero .ensures) (c .before .before .used-or-zero2 .ensures) (c .before .used-or-zero3 .ensures) (c .used-or-zero4 .ensures)
+returns-3 c =
+    let c1 = c .before in
+    let c2 = c1 .before in
+    let c3 = c2 .before in
+    let c4 = c3 .before in
+    let a = c4 .before .before .before .before .before .args in
+    code-given (a .w) (c4 .fields .result) (c3 .used-or-zero .result) (c2 .used-or-zero2 .result) (c1 .used-or-zero3 .result)
+    (c .used-or-zero4 .result) (omega arith) (omega arith) (c4 .fields .ensures) (c3 .used-or-zero .ensures) (c2 .used-or-zero2 .ensures)
+    (c1 .used-or-zero3 .ensures) (c .used-or-zero4 .ensures)
 
 pub is-call-spec : {M : Type 1} → statement M
 is-call-spec =

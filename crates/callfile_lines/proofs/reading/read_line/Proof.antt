@@ -36,14 +36,40 @@ malformed-requires-2 c κs = search needs
 
 returns-2 : tie.Need-returns-2
 returns-2 c =
-    line-bad (c .before .before .before .before .before .before .before .before .before .before .before .before .before .before .before .before .args .line .now) (c .before .before .before .before .before .before .before .before .before .before .before .before .before .plain-at .result) (c .before .before .before .before .before .before .before .before .before .before .before .before .plain-at2 .result) (c .before .before .before .before .before .before .before .before .before .before .before .plain-at3 .result) (c .before .before .before .before .before .before .before .before .before .before .plain-at4 .result) (c .before .before .before .before .before .before .before .before .before .plain-at5 .result) (c .before .before .before .coded .result) (c .before .before .is-call .result) (c .before .before .before .before .before .before .before .before .before .before .before .before .before .before .if1 .left) (c .before .before .before .before .before .before .before .before .before .before .before .before .before .plain-at .ensures) (c .before .before .before .before .before .before .before .before .before .before .before .before .plain-at2 .ensures) (c .before .before .before .before .before .before .before .before .before .before .before .plain-at3 .ensures) (c .before .before .before .before .before .before .before .before .before .before .plain-at4 .ensures) (c .before .before .before .before .before .before .before .before .before .plain-at5 .ensures) (c .before .before .before .coded .ensures) (c .before .before .is-call .ensures) (c .malformed2 .result) (c .before .if2 .taken) (c .malformed2 .ensures)
+    let c1 = c .before in
+    let c2 = c1 .before in
+    let c3 = c2 .before in
+    let c9 = c3 .before .before .before .before .before .before in
+    let c10 = c9 .before in
+    let c11 = c10 .before in
+    let c12 = c11 .before in
+    let c13 = c12 .before in
+    let c14 = c13 .before in
+    let a = c14 .before .before .args in
+    line-bad (a .line .now) (c13 .plain-at .result) (c12 .plain-at2 .result) (c11 .plain-at3 .result) (c10 .plain-at4 .result)
+    (c9 .plain-at5 .result) (c3 .coded .result) (c2 .is-call .result) (c14 .if1 .left) (c13 .plain-at .ensures) (c12 .plain-at2 .ensures)
+    (c11 .plain-at3 .ensures) (c10 .plain-at4 .ensures) (c9 .plain-at5 .ensures) (c3 .coded .ensures) (c2 .is-call .ensures)
+    (c .malformed2 .result) (c1 .if2 .taken) (c .malformed2 .ensures)
 
 call-of-requires : tie.Need-call-of-requires
 call-of-requires c κs = search needs
 
 returns-3 : tie.Need-returns-3
 returns-3 c =
-    line-good (c .before .before .before .before .before .before .before .before .before .before .before .before .before .before .before .before .args .line .now) (c .before .before .before .before .before .before .before .before .before .before .before .before .before .plain-at .result) (c .before .before .before .before .before .before .before .before .before .before .before .before .plain-at2 .result) (c .before .before .before .before .before .before .before .before .before .before .before .plain-at3 .result) (c .before .before .before .before .before .before .before .before .before .before .plain-at4 .result) (c .before .before .before .before .before .before .before .before .before .plain-at5 .result) (c .before .before .before .coded .result) (c .before .before .is-call .result) (c .before .before .before .before .before .before .before .before .before .before .before .before .before .before .if1 .left) (c .before .before .before .before .before .before .before .before .before .before .before .before .before .plain-at .ensures) (c .before .before .before .before .before .before .before .before .before .before .before .before .plain-at2 .ensures) (c .before .before .before .before .before .before .before .before .before .before .before .plain-at3 .ensures) (c .before .before .before .before .before .before .before .before .before .before .plain-at4 .ensures) (c .before .before .before .before .before .before .before .before .before .plain-at5 .ensures) (c .before .before .before .coded .ensures) (c .before .before .is-call .ensures) (c .call-of .result) (c .before .if2 .left) (c .call-of .ensures)
+    let c1 = c .before in
+    let c2 = c1 .before in
+    let c3 = c2 .before in
+    let c9 = c3 .before .before .before .before .before .before in
+    let c10 = c9 .before in
+    let c11 = c10 .before in
+    let c12 = c11 .before in
+    let c13 = c12 .before in
+    let c14 = c13 .before in
+    let a = c14 .before .before .args in
+    line-good (a .line .now) (c13 .plain-at .result) (c12 .plain-at2 .result) (c11 .plain-at3 .result) (c10 .plain-at4 .result)
+    (c9 .plain-at5 .result) (c3 .coded .result) (c2 .is-call .result) (c14 .if1 .left) (c13 .plain-at .ensures) (c12 .plain-at2 .ensures)
+    (c11 .plain-at3 .ensures) (c10 .plain-at4 .ensures) (c9 .plain-at5 .ensures) (c3 .coded .ensures) (c2 .is-call .ensures)
+    (c .call-of .result) (c1 .if2 .left) (c .call-of .ensures)
 
 pub read-line-spec : {M : Type 1} → statement M
 read-line-spec =

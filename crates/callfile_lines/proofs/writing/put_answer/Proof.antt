@@ -29,13 +29,21 @@ put-plain-requires : tie.Need-put-plain-requires
 put-plain-requires c κs = search needs
 
 add-put-plain : tie.Need-add-put-plain
-add-put-plain c = omega (arith, held (length (c .before .before .before .before .before .before .before .before .before .before .args .out .now)) (c .before .before .before .before .before .before .before .before .before .before .args .at) 10 (c .before .before .before .before .before .before .before .before .holds .result) (c .before .before .before .before .before .before .before .before .holds .ensures) (c .before .before .before .before .before .before .before .if1 .left))
+add-put-plain c =
+    let c7 = c .before .before .before .before .before .before .before in
+    let c8 = c7 .before in
+    let a = c8 .before .before .args in
+    omega (arith, held (length (a .out .now)) (a .at) 10 (c8 .holds .result) (c8 .holds .ensures) (c7 .if1 .left))
 
 put-plain-requires-2 : tie.Need-put-plain-requires-2
 put-plain-requires-2 c κs = search needs
 
 add-put-text : tie.Need-add-put-text
-add-put-text c = omega (arith, held (length (c .before .before .before .before .before .before .before .before .before .before .before .before .before .before .args .out .now)) (c .before .before .before .before .before .before .before .before .before .before .before .before .before .before .args .at) 10 (c .before .before .before .before .before .before .before .before .before .before .before .before .holds .result) (c .before .before .before .before .before .before .before .before .before .before .before .before .holds .ensures) (c .before .before .before .before .before .before .before .before .before .before .before .if1 .left))
+add-put-text c =
+    let c11 = c .before .before .before .before .before .before .before .before .before .before .before in
+    let c12 = c11 .before in
+    let a = c12 .before .before .args in
+    omega (arith, held (length (a .out .now)) (a .at) 10 (c12 .holds .result) (c12 .holds .ensures) (c11 .if1 .left))
 
 slice-aggregate-put-text : tie.Need-slice-aggregate-put-text
 slice-aggregate-put-text c = search needs
@@ -48,8 +56,18 @@ same-length c = search needs
 
 returns-3 : tie.Need-returns-3
 returns-3 c =
-    let a = c .before .before .before .before .before .before .before .before .before .before .before .before .before .before .before .before .before .before .args in
-    answer-put (a .out .now) (a .at) (a .answer) (c .before .before .before .before .before .before .before .before .before .before .before .put-plain .last .0) (c .before .before .before .before .before .before .before .put-plain2 .last .0) (c .before .before .put-text .last .0) (held (length (a .out .now)) (a .at) 10 (c .before .before .before .before .before .before .before .before .before .before .before .before .before .before .before .before .holds .result) (c .before .before .before .before .before .before .before .before .before .before .before .before .before .before .before .before .holds .ensures) (c .before .before .before .before .before .before .before .before .before .before .before .before .before .before .before .if1 .left)) (told (c .before .before .before .before .before .before .before .before .before .before .before .before .before .before .answer-fits .result) (answerFits (a .answer)) (c .before .before .before .before .before .before .before .before .before .before .before .before .before .before .answer-fits .ensures) (c .before .before .before .before .before .before .before .before .before .before .before .before .before .if2 .left)) (c .before .before .before .before .before .before .before .before .before .before .before .put-plain .ensures) (c .before .before .before .before .before .before .before .put-plain2 .ensures) (c .before .before .put-text .ensures)
+    let c2 = c .before .before in
+    let c7 = c2 .before .before .before .before .before in
+    let c11 = c7 .before .before .before .before in
+    let c13 = c11 .before .before in
+    let c14 = c13 .before in
+    let c15 = c14 .before in
+    let c16 = c15 .before in
+    let a = c16 .before .before .args in
+    answer-put (a .out .now) (a .at) (a .answer) (c11 .put-plain .last .0) (c7 .put-plain2 .last .0) (c2 .put-text .last .0)
+    (held (length (a .out .now)) (a .at) 10 (c16 .holds .result) (c16 .holds .ensures) (c15 .if1 .left))
+    (told (c14 .answer-fits .result) (answerFits (a .answer)) (c14 .answer-fits .ensures) (c13 .if2 .left))
+    (c11 .put-plain .ensures) (c7 .put-plain2 .ensures) (c2 .put-text .ensures)
 
 pub put-answer-spec : {M : Type 1} → statement M
 put-answer-spec =

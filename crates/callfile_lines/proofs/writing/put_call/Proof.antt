@@ -36,7 +36,11 @@ put-words-requires c κs =
     (omega arith, told (c .before .before .words-fit .result) (wordsFit (c .before .before .before .words-of .result)) (c .before .before .words-fit .ensures) (c .before .if2 .left))
 
 add-put-text : tie.Need-add-put-text
-add-put-text c = omega (arith, held (length (c .before .before .before .before .before .before .before .before .before .before .before .args .out .now)) (c .before .before .before .before .before .before .before .before .before .before .before .args .at) callBytes (c .before .before .before .before .before .before .before .before .before .holds .result) (c .before .before .before .before .before .before .before .before .before .holds .ensures) (c .before .before .before .before .before .before .before .before .if1 .left))
+add-put-text c =
+    let c8 = c .before .before .before .before .before .before .before .before in
+    let c9 = c8 .before in
+    let a = c9 .before .before .args in
+    omega (arith, held (length (a .out .now)) (a .at) callBytes (c9 .holds .result) (c9 .holds .ensures) (c8 .if1 .left))
 
 slice-aggregate-put-text : tie.Need-slice-aggregate-put-text
 slice-aggregate-put-text c = search needs
@@ -49,8 +53,19 @@ same-length c = search needs
 
 returns-3 : tie.Need-returns-3
 returns-3 c =
-    let a = c .before .before .before .before .before .before .before .before .before .before .before .before .before .before .before .args in
-    call-put (a .out .now) (a .at) (a .call) (c .before .before .before .before .before .before .before .before .before .before .before .words-of .result) (c .before .before .before .before .before .before .before .put-words .last .0) (c .before .before .put-text .last .0) (held (length (a .out .now)) (a .at) callBytes (c .before .before .before .before .before .before .before .before .before .before .before .before .before .holds .result) (c .before .before .before .before .before .before .before .before .before .before .before .before .before .holds .ensures) (c .before .before .before .before .before .before .before .before .before .before .before .before .if1 .left)) (c .before .before .before .before .before .before .before .before .before .before .before .words-of .ensures) (told (c .before .before .before .before .before .before .before .before .before .before .words-fit .result) (callFits (a .call)) (c .before .before .before .before .before .before .before .before .before .before .words-fit .ensures ∙ ap wordsFit (c .before .before .before .before .before .before .before .before .before .before .before .words-of .ensures)) (c .before .before .before .before .before .before .before .before .before .if2 .left)) (c .before .before .before .before .before .before .before .put-words .ensures) (c .before .before .put-text .ensures)
+    let c2 = c .before .before in
+    let c7 = c2 .before .before .before .before .before in
+    let c9 = c7 .before .before in
+    let c10 = c9 .before in
+    let c11 = c10 .before in
+    let c12 = c11 .before in
+    let c13 = c12 .before in
+    let a = c13 .before .before .args in
+    call-put (a .out .now) (a .at) (a .call) (c11 .words-of .result) (c7 .put-words .last .0) (c2 .put-text .last .0)
+    (held (length (a .out .now)) (a .at) callBytes (c13 .holds .result) (c13 .holds .ensures) (c12 .if1 .left))
+    (c11 .words-of .ensures)
+    (told (c10 .words-fit .result) (callFits (a .call)) (c10 .words-fit .ensures ∙ ap wordsFit (c11 .words-of .ensures)) (c9 .if2 .left))
+    (c7 .put-words .ensures) (c2 .put-text .ensures)
 
 pub put-call-spec : {M : Type 1} → statement M
 put-call-spec =

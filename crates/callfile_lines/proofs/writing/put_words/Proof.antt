@@ -37,8 +37,16 @@ same-length c = search needs
 
 returns : tie.Need-returns
 returns c =
-    let a = c .before .before .before .before .before .before .before .before .before .before .before .before .before .before .before .before .before .before .before .before .before .args in
-    words-put (a .w) (a .at) (a .out .now) (c .before .before .before .before .before .before .before .before .before .before .before .before .before .before .before .before .before .before .put-plain .last .0) (c .before .before .before .before .before .before .before .before .before .before .before .before .before .before .put-plain2 .last .0) (c .before .before .before .before .before .before .before .before .before .before .put-plain3 .last .0) (c .before .before .before .before .before .before .put-plain4 .last .0) (c .before .before .put-plain5 .last .0) (c .before .before .before .before .before .before .before .before .before .before .before .before .before .before .before .before .before .before .before .before .before .pre .0) (fit (a .w) (c .before .before .before .before .before .before .before .before .before .before .before .before .before .before .before .before .before .before .before .before .before .pre .1)) (c .before .before .before .before .before .before .before .before .before .before .before .before .before .before .before .before .before .before .put-plain .ensures) (c .before .before .before .before .before .before .before .before .before .before .before .before .before .before .put-plain2 .ensures) (c .before .before .before .before .before .before .before .before .before .before .put-plain3 .ensures) (c .before .before .before .before .before .before .put-plain4 .ensures) (c .before .before .put-plain5 .ensures)
+    let c2 = c .before .before in
+    let c6 = c2 .before .before .before .before in
+    let c10 = c6 .before .before .before .before in
+    let c14 = c10 .before .before .before .before in
+    let c18 = c14 .before .before .before .before in
+    let c21 = c18 .before .before .before in
+    let a = c21 .args in
+    words-put (a .w) (a .at) (a .out .now) (c18 .put-plain .last .0) (c14 .put-plain2 .last .0) (c10 .put-plain3 .last .0)
+    (c6 .put-plain4 .last .0) (c2 .put-plain5 .last .0) (c21 .pre .0) (fit (a .w) (c21 .pre .1)) (c18 .put-plain .ensures)
+    (c14 .put-plain2 .ensures) (c10 .put-plain3 .ensures) (c6 .put-plain4 .ensures) (c2 .put-plain5 .ensures)
 
 pub put-words-spec : {M : Type 1} → statement M
 put-words-spec =

@@ -38,9 +38,18 @@ power-requires c κs = (refl, omega arith)
 
 mul-sum : tie.Need-mul-sum Inv-loop μ-loop
 mul-sum c =
-    let a = c .before .before .before .before .before .before .before .args in
-    let l = c .before .before .before .before .before .loop in
-    record { fits = omega (arith, sum-fits (a .text .now) (a .at) (a .w) (l .i) (l .sum) (c .before .before .digit .result) (c .power .result) (c .before .before .before .before .before .before .before .pre .0) (c .before .before .before .before .before .before .before .pre .1) (c .before .before .before .before .loop-test .taken) (l .inv .1) (c .before .before .digit .ensures) (c .power .ensures)) }
+    let c2 = c .before .before in
+    let c4 = c2 .before .before in
+    let c7 = c4 .before .before .before in
+    let a = c7 .args in
+    let l = c4 .before .loop in
+    record {
+      fits = omega (
+        arith,
+        sum-fits (a .text .now) (a .at) (a .w) (l .i) (l .sum) (c2 .digit .result) (c .power .result) (c7 .pre .0)
+            (c7 .pre .1) (c4 .loop-test .taken) (l .inv .1) (c2 .digit .ensures) (c .power .ensures),
+      );
+    }
 
 add-sum : tie.Need-add-sum Inv-loop μ-loop
 add-sum c =

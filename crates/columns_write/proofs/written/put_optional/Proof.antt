@@ -29,27 +29,55 @@ returns-2 c =
 
 put-marked-requires : tie.Need-put-marked-requires
 put-marked-requires c κs =
-    let a = c .before .before .before .before .before .before .before .args in
-    (held (length (a .out .now)) (a .at) (a .w) (c .before .before .before .before .before .holds .result) (c .before .before .before .before .before .holds .ensures) (c .before .before .before .before .if1 .left), optional-small (a .w) (a .present) (a .n) (c .before .if3 .taken) (told (c .before .before .before .optional-fits .result) (optionalFits (a .w) (a .present) (a .n)) (c .before .before .before .optional-fits .ensures) (c .before .before .if2 .left)))
+    let c1 = c .before in
+    let c2 = c1 .before in
+    let c3 = c2 .before in
+    let c4 = c3 .before in
+    let c5 = c4 .before in
+    let a = c5 .before .before .args in (
+      held (length (a .out .now)) (a .at) (a .w) (c5 .holds .result) (c5 .holds .ensures) (c4 .if1 .left),
+      optional-small (a .w) (a .present) (a .n) (c1 .if3 .taken)
+          (told (c3 .optional-fits .result) (optionalFits (a .w) (a .present) (a .n)) (c3 .optional-fits .ensures) (c2 .if2 .left)),
+    )
 
 same-length : tie.Need-same-length
 same-length c = search needs
 
 returns-3 : tie.Need-returns-3
 returns-3 c =
-    let a = c .before .before .before .before .before .before .before .before .before .before .args in
-    optional-done (a .out .now) (c .before .before .put-marked .last .0) (a .at) (a .w) (a .n) (c .before .before .before .before .before .before .before .before .holds .result) (c .before .before .before .before .before .before .optional-fits .result) (c .before .before .before .before .before .before .before .before .holds .ensures) (c .before .before .before .before .before .before .before .if1 .left) (c .before .before .before .before .before .if2 .left) (a .present) true (c .before .before .before .before .before .before .optional-fits .ensures) (c .before .before .before .before .if3 .taken) (c .before .before .put-marked .ensures)
+    let c2 = c .before .before in
+    let c4 = c2 .before .before in
+    let c5 = c4 .before in
+    let c6 = c5 .before in
+    let c7 = c6 .before in
+    let c8 = c7 .before in
+    let a = c8 .before .before .args in
+    optional-done (a .out .now) (c2 .put-marked .last .0) (a .at) (a .w) (a .n) (c8 .holds .result) (c6 .optional-fits .result)
+    (c8 .holds .ensures) (c7 .if1 .left) (c5 .if2 .left) (a .present) true (c6 .optional-fits .ensures) (c4 .if3 .taken)
+    (c2 .put-marked .ensures)
 
 put-dash-requires : tie.Need-put-dash-requires
-put-dash-requires c κs = held (length (c .before .before .before .before .before .before .before .args .out .now)) (c .before .before .before .before .before .before .before .args .at) (c .before .before .before .before .before .before .before .args .w) (c .before .before .before .before .before .holds .result) (c .before .before .before .before .before .holds .ensures) (c .before .before .before .before .if1 .left)
+put-dash-requires c κs =
+    let c4 = c .before .before .before .before in
+    let c5 = c4 .before in
+    let a = c5 .before .before .args in
+    held (length (a .out .now)) (a .at) (a .w) (c5 .holds .result) (c5 .holds .ensures) (c4 .if1 .left)
 
 same-length-2 : tie.Need-same-length-2
 same-length-2 c = search needs
 
 returns-4 : tie.Need-returns-4
 returns-4 c =
-    let a = c .before .before .before .before .before .before .before .before .before .before .args in
-    optional-done (a .out .now) (c .before .before .put-dash .last .0) (a .at) (a .w) (a .n) (c .before .before .before .before .before .before .before .before .holds .result) (c .before .before .before .before .before .before .optional-fits .result) (c .before .before .before .before .before .before .before .before .holds .ensures) (c .before .before .before .before .before .before .before .if1 .left) (c .before .before .before .before .before .if2 .left) (a .present) false (c .before .before .before .before .before .before .optional-fits .ensures) (c .before .before .before .before .if3 .left) (c .before .before .put-dash .ensures)
+    let c2 = c .before .before in
+    let c4 = c2 .before .before in
+    let c5 = c4 .before in
+    let c6 = c5 .before in
+    let c7 = c6 .before in
+    let c8 = c7 .before in
+    let a = c8 .before .before .args in
+    optional-done (a .out .now) (c2 .put-dash .last .0) (a .at) (a .w) (a .n) (c8 .holds .result) (c6 .optional-fits .result)
+    (c8 .holds .ensures) (c7 .if1 .left) (c5 .if2 .left) (a .present) false (c6 .optional-fits .ensures) (c4 .if3 .left)
+    (c2 .put-dash .ensures)
 
 pub put-optional-spec : {M : Type 1} → statement M
 put-optional-spec =

@@ -36,8 +36,14 @@ same-length c = search needs
 
 returns-3 : tie.Need-returns-3
 returns-3 c =
-    let a = c .before .before .before .before .before .before .before .before .before .args in
-    plain-done (a .out .now) (c .before .before .put-marked .last .0) (a .at) (a .w) (a .n) (c .before .before .before .before .before .before .before .holds .result) (c .before .before .before .before .before .fits2 .result) (c .before .before .before .before .before .before .before .holds .ensures) (c .before .before .before .before .before .before .if1 .left) (c .before .before .before .before .if2 .left) (c .before .before .before .before .before .fits2 .ensures) (c .before .before .put-marked .ensures)
+    let c2 = c .before .before in
+    let c4 = c2 .before .before in
+    let c5 = c4 .before in
+    let c6 = c5 .before in
+    let c7 = c6 .before in
+    let a = c7 .before .before .args in
+    plain-done (a .out .now) (c2 .put-marked .last .0) (a .at) (a .w) (a .n) (c7 .holds .result) (c5 .fits2 .result) (c7 .holds .ensures)
+    (c6 .if1 .left) (c4 .if2 .left) (c5 .fits2 .ensures) (c2 .put-marked .ensures)
 
 pub put-plain-spec : {M : Type 1} → statement M
 put-plain-spec =

@@ -31,16 +31,31 @@ mark-of-requires c κs = search needs
 
 put-marked-requires : tie.Need-put-marked-requires
 put-marked-requires c κs =
-    let a = c .before .before .before .before .before .before .before .args in
-    (held (length (a .out .now)) (a .at) (a .w) (c .before .before .before .before .before .holds .result) (c .before .before .before .before .before .holds .ensures) (c .before .before .before .before .if1 .left), signed-small (a .w) (a .below) (a .size) (told (c .before .before .before .signed-fits .result) (signedFits (a .w) (a .below) (a .size)) (c .before .before .before .signed-fits .ensures) (c .before .before .if2 .left)))
+    let c2 = c .before .before in
+    let c3 = c2 .before in
+    let c4 = c3 .before in
+    let c5 = c4 .before in
+    let a = c5 .before .before .args in (
+      held (length (a .out .now)) (a .at) (a .w) (c5 .holds .result) (c5 .holds .ensures) (c4 .if1 .left),
+      signed-small (a .w) (a .below) (a .size)
+          (told (c3 .signed-fits .result) (signedFits (a .w) (a .below) (a .size)) (c3 .signed-fits .ensures) (c2 .if2 .left)),
+    )
 
 same-length : tie.Need-same-length
 same-length c = search needs
 
 returns-3 : tie.Need-returns-3
 returns-3 c =
-    let a = c .before .before .before .before .before .before .before .before .before .before .args in
-    signed-done (a .out .now) (c .before .before .put-marked .last .0) (a .at) (a .w) (a .size) (c .before .before .before .before .before .before .before .before .holds .result) (c .before .before .before .before .before .before .signed-fits .result) (c .before .before .before .before .before .before .before .before .holds .ensures) (c .before .before .before .before .before .before .before .if1 .left) (c .before .before .before .before .before .if2 .left) (a .below) (c .before .before .before .mark-of .result) (c .before .before .before .before .before .before .signed-fits .ensures) (c .before .before .before .mark-of .ensures) (c .before .before .put-marked .ensures)
+    let c2 = c .before .before in
+    let c3 = c2 .before in
+    let c5 = c3 .before .before in
+    let c6 = c5 .before in
+    let c7 = c6 .before in
+    let c8 = c7 .before in
+    let a = c8 .before .before .args in
+    signed-done (a .out .now) (c2 .put-marked .last .0) (a .at) (a .w) (a .size) (c8 .holds .result) (c6 .signed-fits .result)
+    (c8 .holds .ensures) (c7 .if1 .left) (c5 .if2 .left) (a .below) (c3 .mark-of .result) (c6 .signed-fits .ensures) (c3 .mark-of .ensures)
+    (c2 .put-marked .ensures)
 
 pub put-signed-spec : {M : Type 1} → statement M
 put-signed-spec =

@@ -175,7 +175,12 @@ same-length-24 c = search needs
 
 returns-8 : tie.Need-returns-8
 unfolding step
-returns-8 c = rw (c .before .before .before .before .before .before .before .before .before .c8 .given .1) (c .before .before .before .before .order .ensures .0, same-memory (now (c .before .before .before .before .before .before .before .before .before .before .before .before .before .before .args .register)) (now (c .before .before .before .before .before .before .before .before .before .before .before .before .before .before .args .register)) _ _ _ _ refl (c .before .before .before .before .order .ensures .1 .0) (c .before .before .before .before .order .ensures .1 .1))
+returns-8 c =
+    let c4 = c .before .before .before .before in
+    let a = c4 .before .before .before .before .before .before .before .before .before .before .args in
+    let rs = now (a .register) in
+    rw (c .before .before .before .before .before .before .before .before .before .c8 .given .1)
+    (c4 .order .ensures .0, same-memory rs rs _ _ _ _ refl (c4 .order .ensures .1 .0) (c4 .order .ensures .1 .1))
 
 same-length-25 : tie.Need-same-length-25
 same-length-25 c = search needs
@@ -188,7 +193,12 @@ same-length-27 c = search needs
 
 returns-9 : tie.Need-returns-9
 unfolding step
-returns-9 c = rw (c .before .before .before .before .before .before .before .before .before .c9 .given .1) (c .before .before .before .before .fill .ensures .0, same-memory (now (c .before .before .before .before .before .before .before .before .before .before .before .before .before .before .args .register)) (now (c .before .before .before .before .before .before .before .before .before .before .before .before .before .before .args .register)) _ _ _ _ refl (c .before .before .before .before .fill .ensures .1 .0) (c .before .before .before .before .fill .ensures .1 .1))
+returns-9 c =
+    let c4 = c .before .before .before .before in
+    let a = c4 .before .before .before .before .before .before .before .before .before .before .args in
+    let rs = now (a .register) in
+    rw (c .before .before .before .before .before .before .before .before .before .c9 .given .1)
+    (c4 .fill .ensures .0, same-memory rs rs _ _ _ _ refl (c4 .fill .ensures .1 .0) (c4 .fill .ensures .1 .1))
 
 same-length-28 : tie.Need-same-length-28
 same-length-28 c = search needs
@@ -201,7 +211,12 @@ same-length-30 c = search needs
 
 returns-10 : tie.Need-returns-10
 unfolding step
-returns-10 c = rw (c .before .before .before .before .before .before .before .before .before .c10 .given .1) (c .before .before .before .before .cancel .ensures .0, same-memory (now (c .before .before .before .before .before .before .before .before .before .before .before .before .before .before .args .register)) (now (c .before .before .before .before .before .before .before .before .before .before .before .before .before .before .args .register)) _ _ _ _ refl (c .before .before .before .before .cancel .ensures .1 .0) (c .before .before .before .before .cancel .ensures .1 .1))
+returns-10 c =
+    let c4 = c .before .before .before .before in
+    let a = c4 .before .before .before .before .before .before .before .before .before .before .args in
+    let rs = now (a .register) in
+    rw (c .before .before .before .before .before .before .before .before .before .c10 .given .1)
+    (c4 .cancel .ensures .0, same-memory rs rs _ _ _ _ refl (c4 .cancel .ensures .1 .0) (c4 .cancel .ensures .1 .1))
 
 same-length-31 : tie.Need-same-length-31
 same-length-31 c = search needs

@@ -30,7 +30,13 @@ same-length : tie.Need-same-length
 same-length c = search needs
 
 returns-4 : tie.Need-returns-4
-returns-4 c = put-whole (now (c .before .before .before .before .before .before .before .before .before .args .out)) (c .before .before .before .before .before .before .before .before .before .args .at) (c .before .before .before .before .before .before .before .before .before .args .row) (c .before .before .before .before .before .before .before .row-kept .result) (c .before .before .before .before .before .before .before .row-kept .ensures) (c .before .before .write-row .last .0) (c .before .before .before .before .before .before .if1 .left) (omega arith) (c .before .before .write-row .ensures)
+returns-4 c =
+    let c2 = c .before .before in
+    let c6 = c2 .before .before .before .before in
+    let c7 = c6 .before in
+    let a = c7 .before .before .args in
+    put-whole (now (a .out)) (a .at) (a .row) (c7 .row-kept .result) (c7 .row-kept .ensures) (c2 .write-row .last .0) (c6 .if1 .left)
+    (omega arith) (c2 .write-row .ensures)
 
 pub put-row-spec : {M : Type 1} → statement M
 put-row-spec =

@@ -46,7 +46,10 @@ put-plain-requires-5 : tie.Need-put-plain-requires-5
 put-plain-requires-5 c κs = search needs
 
 add-put-text : tie.Need-add-put-text
-add-put-text c = record { fits = omega (arith, c .before .before .before .before .before .before .before .before .before .before .before .before .before .before .before .before .before .before .before .before .before .before .before .before .before .before .before .before .before .before .before .before .before .before .before .pre .0, c .before .before .before .before .before .before .before .before .before .before .before .before .before .before .before .before .before .before .before .before .before .before .before .before .before .before .before .before .before .before .before .before .before .before .before .good .0 .0) }
+add-put-text c =
+    let c18 = c .before .before .before .before .before .before .before .before .before .before .before .before .before .before .before .before .before .before in
+    let c35 = c18 .before .before .before .before .before .before .before .before .before .before .before .before .before .before .before .before .before in
+    record { fits = omega (arith, c35 .pre .0, c35 .good .0 .0) }
 
 slice-aggregate-put-text : tie.Need-slice-aggregate-put-text
 slice-aggregate-put-text c = search needs
@@ -55,7 +58,21 @@ put-text-requires : tie.Need-put-text-requires
 put-text-requires c κs = search needs
 
 returns : tie.Need-returns
-returns c = row-written (now (c .before .before .before .before .before .before .before .before .before .before .before .before .before .before .before .before .before .before .before .before .before .before .before .before .before .before .before .before .before .before .before .before .before .before .before .before .before .before .before .args .out)) (c .before .before .before .before .before .before .before .before .before .before .before .before .before .before .before .before .before .before .before .before .before .before .before .before .before .before .before .before .before .before .before .before .before .before .before .before .before .before .before .args .at) (c .before .before .before .before .before .before .before .before .before .before .before .before .before .before .before .before .before .before .before .before .before .before .before .before .before .before .before .before .before .before .before .before .before .before .before .before .before .before .before .args .row) (c .before .before .before .before .before .before .before .before .before .before .before .before .before .before .before .before .before .before .before .before .before .before .before .before .before .before .before .before .before .before .before .put-plain .last .0) (c .before .before .before .before .before .before .before .before .before .before .before .before .before .before .before .before .before .before .before .before .before .before .before .before .before .before .before .put-plain2 .last .0) (c .before .before .before .before .before .before .before .before .before .before .before .before .before .before .before .before .before .before .before .before .before .before .before .put-limits .last .0) (c .before .before .before .before .before .before .before .before .before .before .before .before .before .before .before .before .before .before .before .put-signed .last .0) (c .before .before .before .before .before .before .before .before .before .before .before .before .before .before .before .put-plain3 .last .0) (c .before .before .before .before .before .before .before .before .before .before .before .put-plain4 .last .0) (c .before .before .before .before .before .before .before .put-plain5 .last .0) (c .before .before .put-text .last .0) (c .before .before .before .before .before .before .before .before .before .before .before .before .before .before .before .before .before .before .before .before .before .before .before .before .before .before .before .before .before .before .before .before .before .before .before .before .before .before .before .pre .0) (c .before .before .before .before .before .before .before .before .before .before .before .before .before .before .before .before .before .before .before .before .before .before .before .before .before .before .before .before .before .before .before .before .before .before .before .before .before .before .before .pre .1) (c .before .before .before .before .before .before .before .before .before .before .before .before .before .before .before .before .before .before .before .before .before .before .before .before .before .before .before .before .before .before .before .put-plain .ensures) (c .before .before .before .before .before .before .before .before .before .before .before .before .before .before .before .before .before .before .before .before .before .before .before .before .before .before .before .put-plain2 .ensures) (c .before .before .before .before .before .before .before .before .before .before .before .before .before .before .before .before .before .before .before .before .before .before .before .put-limits .ensures) (c .before .before .before .before .before .before .before .before .before .before .before .before .before .before .before .before .before .before .before .put-signed .ensures) (c .before .before .before .before .before .before .before .before .before .before .before .before .before .before .before .put-plain3 .ensures) (c .before .before .before .before .before .before .before .before .before .before .before .put-plain4 .ensures) (c .before .before .before .before .before .before .before .put-plain5 .ensures) (c .before .before .put-text .ensures)
+returns c =
+    let c2 = c .before .before in
+    let c7 = c2 .before .before .before .before .before in
+    let c11 = c7 .before .before .before .before in
+    let c15 = c11 .before .before .before .before in
+    let c19 = c15 .before .before .before .before in
+    let c23 = c19 .before .before .before .before in
+    let c27 = c23 .before .before .before .before in
+    let c31 = c27 .before .before .before .before in
+    let c39 = c31 .before .before .before .before .before .before .before .before in
+    let a = c39 .args in
+    row-written (now (a .out)) (a .at) (a .row) (c31 .put-plain .last .0) (c27 .put-plain2 .last .0) (c23 .put-limits .last .0)
+    (c19 .put-signed .last .0) (c15 .put-plain3 .last .0) (c11 .put-plain4 .last .0) (c7 .put-plain5 .last .0) (c2 .put-text .last .0)
+    (c39 .pre .0) (c39 .pre .1) (c31 .put-plain .ensures) (c27 .put-plain2 .ensures) (c23 .put-limits .ensures) (c19 .put-signed .ensures)
+    (c15 .put-plain3 .ensures) (c11 .put-plain4 .ensures) (c7 .put-plain5 .ensures) (c2 .put-text .ensures)
 
 same-length : tie.Need-same-length
 same-length c = search needs

@@ -36,7 +36,28 @@ first-requires-6 c κs = search needs
 
 returns : tie.Need-returns
 unfolding raiseRules
-returns c = rw (c .first6 .ensures, c .before .before .before .first5 .ensures, c .before .before .before .before .before .first4 .ensures, c .before .before .before .before .before .before .is-foreign .ensures, c .before .before .before .before .before .before .before .first3 .ensures, c .before .before .before .before .before .before .before .before .held-by-another .ensures, c .before .before .before .before .before .before .before .before .before .first2 .ensures, c .before .before .before .before .before .before .before .before .before .before .not-above .ensures, c .before .before .before .before .before .before .before .before .before .before .before .first .ensures, c .before .before .before .before .before .before .before .before .before .before .before .before .flag-due .ensures)
+returns c =
+    let c3 = c .before .before .before in
+    let c5 = c3 .before .before in
+    let c6 = c5 .before in
+    let c7 = c6 .before in
+    let c8 = c7 .before in
+    let c9 = c8 .before in
+    let c10 = c9 .before in
+    let c11 = c10 .before in
+    let c12 = c11 .before in
+    rw (
+      c .first6 .ensures,
+      c3 .first5 .ensures,
+      c5 .first4 .ensures,
+      c6 .is-foreign .ensures,
+      c7 .first3 .ensures,
+      c8 .held-by-another .ensures,
+      c9 .first2 .ensures,
+      c10 .not-above .ensures,
+      c11 .first .ensures,
+      c12 .flag-due .ensures,
+    )
 
 pub raise-refusal-spec : {M : Type 1} → statement M
 raise-refusal-spec =

@@ -30,7 +30,24 @@ first-requires-6 c κs = search needs
 
 returns : tie.Need-returns
 unfolding regularRules
-returns c = rw (c .first6 .ensures, c .before .before .before .first5 .ensures, c .before .before .before .before .before .first4 .ensures, c .before .before .before .before .before .before .is-foreign .ensures, c .before .before .before .before .before .before .before .first3 .ensures, c .before .before .before .before .before .before .before .before .before .before .first2 .ensures, c .before .before .before .before .before .before .before .before .before .before .before .before .before .first .ensures, c .before .before .before .before .before .before .before .before .before .before .before .before .before .before .before .before .quota-due .ensures)
+returns c =
+    let c3 = c .before .before .before in
+    let c5 = c3 .before .before in
+    let c6 = c5 .before in
+    let c7 = c6 .before in
+    let c10 = c7 .before .before .before in
+    let c13 = c10 .before .before .before in
+    let c16 = c13 .before .before .before in
+    rw (
+      c .first6 .ensures,
+      c3 .first5 .ensures,
+      c5 .first4 .ensures,
+      c6 .is-foreign .ensures,
+      c7 .first3 .ensures,
+      c10 .first2 .ensures,
+      c13 .first .ensures,
+      c16 .quota-due .ensures,
+    )
 
 pub regular-refusal-spec : {M : Type 1} → statement M
 regular-refusal-spec =

@@ -30,7 +30,24 @@ first-requires-5 c κs = search needs
 
 returns : tie.Need-returns
 unfolding withdrawRules
-returns c = rw (c .first5 .ensures, c .before .first4 .ensures, c .before .before .before .first3 .ensures, c .before .before .before .before .is-foreign .ensures, c .before .before .before .before .before .first2 .ensures, c .before .before .before .before .before .before .nothing-to-withdraw .ensures, c .before .before .before .before .before .before .before .first .ensures, c .before .before .before .before .before .before .before .before .held-by-another .ensures)
+returns c =
+    let c1 = c .before in
+    let c3 = c1 .before .before in
+    let c4 = c3 .before in
+    let c5 = c4 .before in
+    let c6 = c5 .before in
+    let c7 = c6 .before in
+    let c8 = c7 .before in
+    rw (
+      c .first5 .ensures,
+      c1 .first4 .ensures,
+      c3 .first3 .ensures,
+      c4 .is-foreign .ensures,
+      c5 .first2 .ensures,
+      c6 .nothing-to-withdraw .ensures,
+      c7 .first .ensures,
+      c8 .held-by-another .ensures,
+    )
 
 pub withdraw-refusal-spec : {M : Type 1} → statement M
 withdraw-refusal-spec =
