@@ -5,6 +5,7 @@
 //   model < FILE             the model
 //   model --wrong K < FILE   the model with one rule changed (`tests/compare-wrong`)
 //   model --slips            the changed rules, a line each: number K and sentence
+//   model --rooms < FILE     the rooms of the groups after the file's last line, as `readlisting` prints them (`tests/rooms`)
 //
 // Changed rules are the slips of `slips!` below, two refusals in the wrong order (SWAPS), a range one too short or too long at one end,
 // and a call's unused fields left unread. `but(right, Slip, wrong)` is `right`, unless the model runs with that slip: read the first
@@ -564,10 +565,19 @@ fn listing(history: &[Accepted]) -> String {
     rows.into_iter().map(|row| row.1).collect()
 }
 
+// Issue 15: "code (5 columns), class (2) and the room left, own quota − net in mils, signed, 21 columns ("-" where the maximum is none)"
+fn rooms(history: &[Accepted]) -> String {
+    let room = |group| quotas(history, group as Int).own_in_force().map(|own| own * MILS_IN_A_MILLION - money(history, group).net);
+    let line = |(group, (code, class))| format!("{code:>5}{class:>2}{:>21}\n", room(group).map_or("-".to_string(), |room| room.to_string()));
+    groups(history).into_iter().enumerate().map(line).collect()
+}
+
 fn main() {
     let arguments: Vec<String> = std::env::args().skip(1).collect();
+    let mut rooms_alone = false;
     match arguments.iter().map(String::as_str).collect::<Vec<_>>()[..] {
         [] => {}
+        ["--rooms"] => rooms_alone = true,
         ["--slips"] => {
             for (i, (_, says)) in variants().iter().enumerate() { println!("{} {}", i + 1, says); }
             return;
@@ -576,7 +586,7 @@ fn main() {
             let variant = k.parse::<usize>().ok().and_then(|k| variants().into_iter().nth(k.wrapping_sub(1)));
             let _ = WRONG.set(variant.expect("--wrong K: a number of --slips").0);
         }
-        _ => panic!("model [--wrong K | --slips]"),
+        _ => panic!("model [--wrong K | --slips | --rooms]"),
     }
     let mut input = Vec::new();
     std::io::stdin().read_to_end(&mut input).unwrap();
@@ -596,6 +606,7 @@ fn main() {
     }
     // "and at the end the listing"
     output += &listing(&history);
+    if rooms_alone { output = rooms(&history); }
     std::io::stdout().write_all(output.as_bytes()).unwrap();
 }
 
