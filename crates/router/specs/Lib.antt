@@ -1,3 +1,5 @@
 pub mod Handed
+pub mod Rooms
+pub mod Texts
 pub mod Safe
 pub mod Rows
