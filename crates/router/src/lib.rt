@@ -1,6 +1,8 @@
 // The gate for order routers in C and Rust: seven functions over memory that the router lends, thin over the proved layers below. Each takes
 // memory of any content and any length; docs/EMBEDDING.md says how large it should be and what the caller owes. What a router may count on
-// beyond the seven contracts is proved in specs/Safe.antt, specs/Rows.antt and specs/Laws.antt.
+// beyond the seven contracts is proved in specs/: Safe.antt, Rows.antt, RoomLaws.antt, TextLaws.antt and LineLaws.antt.
+pub mod puts; // rows and rooms put into lent words
+
 ghost use mathlib.Core.Path.{_≡_};
 ghost use lib.ListN.{length};
 ghost use Rattle.rules.specs.Codes.{callOf};
@@ -11,9 +13,6 @@ ghost use Rattle.gate_listing.specs.Listed.{listRefusal, listed};
 ghost use Rattle.router.specs.Handed.{listedBytes, handedRefusal, handedRow};
 ghost use Rattle.router.specs.Rooms.{leftRefusal, roomRefusal, roomPut};
 ghost use Rattle.router.specs.Texts.{foundRefusal, foundRow, wroteRefusal, lineRefusal, linePut};
-
-pub mod puts; // rows and rooms put into lent words
-
 use crate::puts::put_found;
 use crate::puts::put_room;
 use crate::puts::put_row;
