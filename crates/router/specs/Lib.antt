@@ -6,3 +6,4 @@ pub mod Rows
 pub mod RoomLaws
 pub mod TextLaws
 pub mod LineLaws
+pub mod Examples

@@ -30,7 +30,7 @@ use Rattle.rows.specs.Room.{roomBy, roomOf}
 use Rattle.rows.specs.declared.Row.{Row}
 use Rattle.rows.specs.declared.RowRead.{RowRead}
 use Rattle.gate_listing.specs.Claim.{historyRow}
-use Rattle.router.specs.Rooms.{roomLength, roomWords, leftRefusal, readRefusal, readRoom, roomRefusal, roomPut}
+use Rattle.router.specs.Rooms.{roomLength, roomWords, leftRefusal, leftPut, readRefusal, readRoom, roomRefusal, roomPut}
 use Rattle.router.specs.Rows.{ReadAs, row-read}
 use Rattle.router.specs.Safe.{isWhole}
 
@@ -46,7 +46,7 @@ left-decides m group lent z = where-accepted (leftRefusal (roomOf ((rowRead m gr
 -- the room of group g, by the history
 pub record RoomAs (h : History) (m : Memory) (g : ℕ) : Type 0 where
   pub refusal : (lent : ℕ) → roomRefusal m g lent ≡ leftRefusal (roomOf (historyRow h g)) lent
-  pub room : (out : List ℕ) → roomPut m g out ≡ unlessRefused (leftRefusal (roomOf (historyRow h g)) (length out)) (splice out 0 (roomWords (roomOf (historyRow h g)))) out
+  pub room : (out : List ℕ) → roomPut m g out ≡ leftPut (roomOf (historyRow h g)) out
 
 -- the claim
 abbrev pub RoomDemand : Type 0
@@ -57,7 +57,7 @@ module _ (h : History) (m : Memory) (g : ℕ) (r : ReadAs m g (historyRow h g)) 
   refused-as : (lent : ℕ) → roomRefusal m g lent ≡ leftRefusal (roomOf (historyRow h g)) lent
   refused-as lent = left-decides m g lent (r .0) ∙ ap (λ (x : Row). leftRefusal (roomOf x) lent) (r .1)
 
-  room-as : (out : List ℕ) → roomPut m g out ≡ unlessRefused (leftRefusal (roomOf (historyRow h g)) (length out)) (splice out 0 (roomWords (roomOf (historyRow h g)))) out
+  room-as : (out : List ℕ) → roomPut m g out ≡ leftPut (roomOf (historyRow h g)) out
   unfolding roomRefusal roomPut
   room-as out =
       ap (λ (q : ℕ). unlessRefused q (splice out 0 (roomWords (roomOf ((rowRead m g) .row)))) out) (refused-as (length out))

@@ -25,6 +25,9 @@ roomWords room = pick (room .left .below) 1 0 ∷ room .left .size .0 ∷ []
 abbrev pub leftRefusal : Room → ℕ → ℕ
 leftRefusal room lent = refusal ((NO-MAXIMUM, not (room .given)) ∷ (SHORT-BUFFER, ltb lent roomLength) ∷ [])
 
+abbrev pub leftPut : Room → List ℕ → List ℕ
+leftPut room out = unlessRefused (leftRefusal room (length out)) (splice out 0 (roomWords room)) out
+
 -- the row's own refusal comes first: 1, 2, 6
 abbrev pub readRefusal : RowRead → ℕ → ℕ
 readRefusal read lent = unlessRefused (read .refusal) (leftRefusal (roomOf (read .row)) lent) (read .refusal)

@@ -11,7 +11,7 @@ use lib.Dec.{leb, ltb}
 use lib.ListN.{length, getD, take}
 use lib.Seq.{paste}
 use Rattle.rules.specs.Tests.{pick, both}
-use Rattle.rules.specs.Refusals.{SHORT-BUFFER, unlessRefused}
+use Rattle.rules.specs.Refusals.{NOT-THERE, MALFORMED, SHORT-BUFFER, unlessRefused}
 use Rattle.rules.specs.Laws.{where-refused, where-accepted}
 use Rattle.words.specs.Words.{splice}
 use Rattle.quota.specs.Asks.{groupsEnrolled}
@@ -31,11 +31,24 @@ use Rattle.router.specs.Texts.{foundRefusal, foundRow}
 abbrev pub textListed : Memory → List ℕ → List ℕ
 textListed m buffer = take (listedBytes m (length buffer)) (listed m buffer)
 
--- row k of a listing that has it
-module _ (t : List ℕ) (h : isListing t ≡ true) (k : ℕ) (l : k < length (rowsIn t)) where
-  pub there-decides : (lent : ℕ) → foundRefusal t k lent ≡ pick (ltb lent rowLength) SHORT-BUFFER 0
+-- row k of a text: 21 where it is no listing; else by how many rows it has
+pub found-malformed : (t : List ℕ) → isListing t ≡ false → (k lent : ℕ) → foundRefusal t k lent ≡ MALFORMED
+unfolding foundRefusal
+found-malformed t h k lent = rw h
+
+module _ (t : List ℕ) (rs : List Row) (h : isListing t ≡ true) (e : rowsIn t ≡ rs) where
+  abbrev pub decided : ℕ → ℕ → ℕ
+  decided k lent = pick (leb (length rs) k) NOT-THERE (pick (ltb lent rowLength) SHORT-BUFFER 0)
+
+  pub found-decides : (k lent : ℕ) → foundRefusal t k lent ≡ decided k lent
   unfolding foundRefusal
-  there-decides lent = rw (h, lt-leb (length (rowsIn t)) k l)
+  found-decides k lent = rw (h, e)
+
+  pub found-words : (k : ℕ) (out : List ℕ) → foundRow t k out ≡ unlessRefused (decided k (length out)) (splice out 0 (rowWords (getD rs k noRow))) out
+  unfolding foundRow
+  found-words k out =
+      ap (λ (q : ℕ). unlessRefused q (splice out 0 (rowWords (getD (rowsIn t) k noRow))) out) (found-decides k (length out))
+      ∙ ap (λ (x : List Row). unlessRefused (decided k (length out)) (splice out 0 (rowWords (getD x k noRow))) out) e
 
 clear-of : (a b : Bool) → _≡_ {A = ℕ} (pick (not a) 1 (pick b 22 0)) 0 → a ≡ true
 clear-of true b z = refl
@@ -67,13 +80,16 @@ module _ (m : Memory) (buffer : List ℕ) (z : listRefusal m (length buffer) ≡
 
   -- each row that a gate lists is read from the text as `ekhurtza_row` hands it out
   module _ (g : ℕ) (l : g < groupsEnrolled (m .register)) where
-    there : g < length (rowsIn (textListed m buffer))
-    there = omega (arith, l, ap length (text-read .1), rows-long m (sound .0) (sound .1))
+    there : g < length (gateRows (m .register) (m .book))
+    there = omega (arith, l, rows-long m (sound .0) (sound .1))
 
     pub back-refused : (lent : ℕ) → foundRefusal (textListed m buffer) g lent ≡ handedRefusal m g lent
     back-refused lent =
         let r = row-reads m (sound .0) (sound .1) g l in
-        there-decides (textListed m buffer) (text-read .0) g there lent ∙ sym (room-decides m g (getD (gateRows (m .register) (m .book)) g noRow) (r .0) (r .1) lent)
+        let rows : List Row = gateRows (m .register) (m .book) in
+        let known : pick (leb (length (gateRows (m .register) (m .book))) g) NOT-THERE (pick (ltb lent rowLength) SHORT-BUFFER 0) ≡ pick (ltb lent rowLength) SHORT-BUFFER 0 =
+        rw (lt-leb (length (gateRows (m .register) (m .book))) g there) in
+        found-decides (textListed m buffer) rows (text-read .0) (text-read .1) g lent ∙ known ∙ sym (room-decides m g (getD rows g noRow) (r .0) (r .1) lent)
 
     pub read-back : (out : List ℕ) → foundRow (textListed m buffer) g out ≡ handedRow m g out
     unfolding foundRow handedRow
