@@ -217,8 +217,8 @@ pub extern "C" fn ekhurtza_call_line(
 ) -> u64
     ensures { λ r. ⌜ (r ≡ lineRefusal code a b c d (length (now (line .entry)))) × (now (line .exit) ≡ linePut code a b c d (now (line .entry))) ⌝ }
 {
-    let named = call_of(code, a, b, c, d);
-    let refusal = refusal_of_line(named, line.len());
-    put_call(line, 0, named);
+    let written = call_of(code, a, b, c, d);
+    let refusal = refusal_of_line(written, line.len());
+    put_call(line, 0, written);
     refusal
 }
