@@ -1,5 +1,5 @@
 -- A room, a row of a text and a line, each refused or handed out: the answer is its definition's, and so is every lent word afterwards. Assumes nothing.
-use Prim.Native.Nat.{ℕ, zero, suc, _/_, _*_, _≤_, _<_}
+use Prim.Native.Nat.{ℕ, _/_, _*_, _≤_, _<_}
 use mathlib.Core.Path.{_≡_, refl, sym, ap, _∙_}
 use mathlib.Core.Bool.{Bool, true, false, not, _&&_, false≢true}
 use mathlib.Core.List.{List, [], _∷_}

@@ -7,3 +7,4 @@ pub mod RoomLaws
 pub mod TextLaws
 pub mod LineLaws
 pub mod Examples
+pub mod LineExamples

@@ -1,26 +1,25 @@
 -- What a router may count on of a call's line: which calls have one (`has-line`), that its bytes are the call's text (`line-text`), that it is read back as
 -- the call (`line-read-back`), and that a refusal writes no byte (`line-kept`). Assumes nothing.
-use Prim.Native.Nat.{ℕ, zero, suc, _+_, _≤_, _<_}
+use Prim.Native.Nat.{ℕ, zero, suc, _≤_}
 use mathlib.Core.Path.{_≡_, refl, sym, ap, _∙_}
 use mathlib.Core.Logic.{_≢_}
 use mathlib.Core.Bool.{Bool, true, false, not, _&&_, _||_}
-use mathlib.Core.List.{List, [], _∷_, _++_}
+use mathlib.Core.List.{List, [], _∷_}
 use native.Mathlib.Omega.{arith}
 use lib.Dec.{leb, ltb}
 use lib.ListN.{length, take}
 use lib.Seq.{paste, take-at, take-take}
-use Rattle.rules.specs.Tests.{pick, within, below-range, above-range}
-use Rattle.rules.specs.Codes.{orderCallOf, callOf, noCall}
-use Rattle.rules.specs.Refusals.{OUT-OF-RANGE, SHORT-BUFFER, unlessRefused}
+use Rattle.rules.specs.Tests.{pick}
+use Rattle.rules.specs.Codes.{orderCallOf, callOf}
+use Rattle.rules.specs.Refusals.{OUT-OF-RANGE, SHORT-BUFFER}
 use Rattle.rules.specs.Laws.{where-refused, where-accepted}
 use Rattle.rules.specs.declared.calls.Call.{Call}
 use Rattle.columns.specs.Column.{fits}
 use Rattle.columns.specs.Pastes.{front}
 use Rattle.callfile.specs.Lines.{wordsOf, lineText, callText, wordsFit, callFits, fields, readLine, lineBytes, callBytes}
 use Rattle.callfile.specs.Laws.{length-line, length-call, line-back}
-use Rattle.callfile.specs.declared.reading.Line.{Line}
 use Rattle.router.specs.Safe.{unknown}
-use Rattle.router.specs.Texts.{wroteRefusal, wroteLine, lineRefusal, linePut}
+use Rattle.router.specs.Texts.{wroteRefusal, lineRefusal, linePut}
 
 -- ---- which calls have a line
 

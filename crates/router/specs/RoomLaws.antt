@@ -1,10 +1,10 @@
 -- What a router may count on of a room. After every list of calls from a fresh gate it is that of the history's row (`room-demand`); it is told exactly where
 -- there is a maximum (`no-maximum`, `a-maximum`); memory that is not sound is answered by 1 (`room-damaged`); a refusal writes no word (`room-kept`).
 -- `room-is` and `room-lets-in` in rows/specs/Room.antt say what its number means. Assumes nothing.
-use Prim.Native.Nat.{ℕ, zero, suc, _≤_, _<_}
+use Prim.Native.Nat.{ℕ, _<_}
 use mathlib.Core.Path.{_≡_, refl, ap, _∙_}
 use mathlib.Core.Logic.{_≢_}
-use mathlib.Core.Bool.{Bool, true, false, not, false≢true}
+use mathlib.Core.Bool.{true, false, not, false≢true}
 use mathlib.Core.List.{List}
 use lib.Dec.{ltb}
 use lib.ListN.{length}
@@ -25,12 +25,12 @@ use Rattle.claim.specs.Step.{Memory}
 use Rattle.claim.specs.Opening.{placesLent, openRefusal}
 use Rattle.claim.specs.Demand.{run, opened}
 use Rattle.rows.specs.Row.{limitsKept, atMost, rowKept, rowRefusal, rowOf, row-of-kept}
-use Rattle.rows.specs.Kept.{Ruled, ruled}
+use Rattle.rows.specs.Kept.{ruled}
 use Rattle.rows.specs.Room.{roomBy, roomOf}
 use Rattle.rows.specs.declared.Row.{Row}
 use Rattle.rows.specs.declared.RowRead.{RowRead}
 use Rattle.gate_listing.specs.Claim.{historyRow}
-use Rattle.router.specs.Rooms.{roomLength, roomWords, leftRefusal, leftPut, readRefusal, readRoom, roomRefusal, roomPut}
+use Rattle.router.specs.Rooms.{roomLength, roomWords, leftRefusal, leftPut, readRefusal, roomRefusal, roomPut}
 use Rattle.router.specs.Rows.{ReadAs, row-read}
 use Rattle.router.specs.Safe.{isWhole}
 

@@ -1,6 +1,6 @@
 -- What a router may count on of a row that is read from a text. The listing that a gate wrote is read back as the rows that the gate hands out
 -- (`read-back`); a refusal writes no word (`found-kept`). Assumes nothing.
-use Prim.Native.Nat.{ℕ, _*_, _≤_, _<_}
+use Prim.Native.Nat.{ℕ, _*_, _<_}
 use mathlib.Core.Path.{_≡_, refl, sym, ap, _∙_}
 use mathlib.Core.Logic.{_≢_}
 use mathlib.Core.Bool.{Bool, true, false, not, _&&_}
@@ -17,7 +17,7 @@ use Rattle.words.specs.Words.{splice}
 use Rattle.quota.specs.Asks.{groupsEnrolled}
 use Rattle.orders.specs.Host.{hostOk}
 use Rattle.columns.specs.Pastes.{front}
-use Rattle.rows.specs.Row.{noRow, rowOf}
+use Rattle.rows.specs.Row.{noRow}
 use Rattle.rows.specs.declared.Row.{Row}
 use Rattle.listing.specs.Text.{listingText, listingKept, isListing, rowsIn, rowBytes}
 use Rattle.listing.specs.Laws.{length-listing, listing-read}
