@@ -25,13 +25,14 @@ use Rattle.claim.specs.Step.{Memory}
 use Rattle.claim.specs.Opening.{placesLent, openRefusal}
 use Rattle.claim.specs.Demand.{run, opened}
 use Rattle.claim.specs.Theorem.{Sim, run-sim, opened-sim, demand}
+use Rattle.orders.specs.Host.{hostOk}
 use Rattle.rows.specs.Row.{rowObeys, rowKept, noRow, refusedRow, madeRow, shownRow, rowRefusal, rowAt, rowOf}
 use Rattle.rows.specs.declared.Row.{Row}
 use Rattle.rows.specs.declared.RowRead.{RowRead}
 use Rattle.listing.specs.Text.{fresh, rowsKept, listingKept}
 use Rattle.gate_listing.specs.Listed.{rowsOn, gateRows}
 use Rattle.gate_listing.specs.Claim.{historyRow, historyRowsOn, historyRows, ListedAs}
-use Rattle.gate_listing.specs.Claimed.{history-length, listing-demand}
+use Rattle.gate_listing.specs.Claimed.{listing-demand}
 use Rattle.router.specs.Handed.{rowLength, rowWords, handedRefusal, handedRow}
 
 -- the row of group g, by the history
@@ -51,6 +52,11 @@ unfolding rowsOn
 gate-at rs bs i zero k l = absurd (omega arith)
 gate-at rs bs i (suc n) zero l = let e : i ≡ i + 0 = omega arith in ap (λ (x : ℕ). (rowAt rs bs x) .row) e
 gate-at rs bs i (suc n) (suc k) l = let e : suc i + k ≡ i + suc k = omega arith in gate-at rs bs (suc i) n k (omega arith) ∙ ap (λ (x : ℕ). (rowAt rs bs x) .row) e
+
+gate-length : (rs bs : List ℕ) (i n : ℕ) → length (rowsOn rs bs i n) ≡ n
+unfolding rowsOn
+gate-length rs bs i zero = refl
+gate-length rs bs i (suc n) = ap suc (gate-length rs bs (suc i) n)
 
 history-at : (h : History) (i n k : ℕ) → k < n → getD (historyRowsOn h i n) k noRow ≡ historyRow h (i + k)
 unfolding historyRowsOn
@@ -84,68 +90,80 @@ kept-clear rs bs g e = kept-shown ((groupAt rs g) .code) ((groupAt rs g) .class)
 
 -- a row that is read without refusal is handed out
 module _ (m : Memory) (g : ℕ) (r : Row) (z : (rowOf (m .register) (m .book) (m .places) g) .refusal ≡ 0) (e : (rowOf (m .register) (m .book) (m .places) g) .row ≡ r) where
-  room-decides : (room : ℕ) → handedRefusal m g room ≡ pick (ltb room rowLength) SHORT-BUFFER 0
+  pub room-decides : (room : ℕ) → handedRefusal m g room ≡ pick (ltb room rowLength) SHORT-BUFFER 0
   unfolding handedRefusal
   room-decides room = where-accepted (pick (ltb room rowLength) SHORT-BUFFER 0) ((rowOf (m .register) (m .book) (m .places) g) .refusal) ((rowOf (m .register) (m .book) (m .places) g) .refusal) z
 
-  row-decides : (out : List ℕ) → rowLength ≤ length out → handedRow m g out ≡ splice out 0 (rowWords r)
+  pub row-decides : (out : List ℕ) → rowLength ≤ length out → handedRow m g out ≡ splice out 0 (rowWords r)
   unfolding handedRow
   row-decides out l =
       let s : pick (ltb (length out) rowLength) SHORT-BUFFER 0 ≡ 0 = rw (le-ltb (length out) 9 l) in
       where-accepted (splice out 0 (rowWords ((rowOf (m .register) (m .book) (m .places) g) .row))) out (handedRefusal m g (length out)) (room-decides (length out) ∙ s)
       ∙ ap (λ (x : Row). splice out 0 (rowWords x)) e
 
+-- a gate whose rows can be listed hands each of them out
+module _ (m : Memory) (host : hostOk (m .register) (m .book) (m .places) ≡ true) (k : listingKept (gateRows (m .register) (m .book)) ≡ true) where
+  pub rows-long : length (gateRows (m .register) (m .book)) ≡ groupsEnrolled (m .register)
+  unfolding gateRows
+  rows-long = gate-length (m .register) (m .book) 0 (groupsEnrolled (m .register))
+
+  all-kept : (length (gateRows (m .register) (m .book)) ≤ 64) × (rowsKept (gateRows (m .register) (m .book)) ≡ true)
+  unfolding listingKept
+  all-kept =
+      let b = both (leb (length (gateRows (m .register) (m .book))) 64) (rowsKept (gateRows (m .register) (m .book))) k in
+      (leb-true (length (gateRows (m .register) (m .book))) 64 (b .0), b .1)
+
+  module _ (g : ℕ) (l : g < groupsEnrolled (m .register)) where
+    same-row : (rowAt (m .register) (m .book) g) .row ≡ getD (gateRows (m .register) (m .book)) g noRow
+    unfolding gateRows
+    same-row =
+        let z : 0 + g ≡ g = omega arith in
+        ap (λ (x : ℕ). (rowAt (m .register) (m .book) x) .row) (sym z) ∙ sym (gate-at (m .register) (m .book) 0 (groupsEnrolled (m .register)) g l)
+
+    row-kept : rowKept ((rowAt (m .register) (m .book) g) .row) ≡ true
+    row-kept = ap rowKept same-row ∙ kept-at (gateRows (m .register) (m .book)) g (omega (arith, l, rows-long)) (all-kept .1)
+
+    none-refuses : rowRefusal (m .register) (m .book) (m .places) g ≡ 0
+    unfolding rowRefusal isEnrolled groupsEnrolled
+    none-refuses = rw (host, le-leb g 63 (omega (arith, l, rows-long, all-kept .0)), lt-ltb g (groupCount (m .register)) l)
+
+    read : rowOf (m .register) (m .book) (m .places) g ≡ rowAt (m .register) (m .book) g
+    unfolding rowOf
+    read = where-accepted (rowAt (m .register) (m .book) g) (refusedRow (rowRefusal (m .register) (m .book) (m .places) g)) (rowRefusal (m .register) (m .book) (m .places) g) none-refuses
+
+    pub row-reads : ((rowOf (m .register) (m .book) (m .places) g) .refusal ≡ 0) × ((rowOf (m .register) (m .book) (m .places) g) .row ≡ getD (gateRows (m .register) (m .book)) g noRow)
+    row-reads = (ap (λ (x : RowRead). x .refusal) read ∙ kept-clear (m .register) (m .book) g row-kept, ap (λ (x : RowRead). x .row) read ∙ same-row)
+
+-- what a row of a gate is read as
+abbrev pub ReadAs : Memory → ℕ → Row → Type 0
+ReadAs m g r = ((rowOf (m .register) (m .book) (m .places) g) .refusal ≡ 0) × ((rowOf (m .register) (m .book) (m .places) g) .row ≡ r)
+
 module _ (N : ℕ) (h : History) (m : Memory) (s : Sim N h m) (count : groupCount (m .register) ≡ length (h .groups)) (d : ListedAs h m) (g : ℕ) (l : g < length (h .groups)) where
   enrolled : groupsEnrolled (m .register) ≡ length (h .groups)
   unfolding groupsEnrolled
   enrolled = count
 
-  all-kept : (length (historyRows h) ≤ 64) × (rowsKept (historyRows h) ≡ true)
-  unfolding listingKept
-  all-kept = let b = both (leb (length (historyRows h)) 64) (rowsKept (historyRows h)) (d .kept) in (leb-true (length (historyRows h)) 64 (b .0), b .1)
-
-  all-long : length (historyRows h) ≡ length (h .groups)
+  read-as : ReadAs m g (historyRow h g)
   unfolding historyRows
-  all-long = history-length h 0 (length (h .groups))
-
-  same-row : (rowAt (m .register) (m .book) g) .row ≡ historyRow h g
-  unfolding gateRows historyRows
-  same-row =
+  read-as =
       let z : 0 + g ≡ g = omega arith in
-      ap (λ (x : ℕ). (rowAt (m .register) (m .book) x) .row) (sym z)
-      ∙ sym (gate-at (m .register) (m .book) 0 (groupsEnrolled (m .register)) g (omega (arith, l, enrolled)))
-      ∙ ap (λ (x : List Row). getD x g noRow) (d .rows)
-      ∙ history-at h 0 (length (h .groups)) g l
-      ∙ ap (historyRow h) z
+      let r = row-reads m (s .host) (ap listingKept (d .rows) ∙ d .kept) g (omega (arith, l, enrolled)) in
+      (r .0, r .1 ∙ ap (λ (x : List Row). getD x g noRow) (d .rows) ∙ history-at h 0 (length (h .groups)) g l ∙ ap (historyRow h) z)
 
-  row-kept : rowKept ((rowAt (m .register) (m .book) g) .row) ≡ true
-  unfolding historyRows
-  row-kept =
-      let z : g ≡ 0 + g = omega arith in
-      ap rowKept (same-row ∙ ap (historyRow h) z ∙ sym (history-at h 0 (length (h .groups)) g l)) ∙ kept-at (historyRows h) g (omega (arith, l, all-long)) (all-kept .1)
-
-  none-refuses : rowRefusal (m .register) (m .book) (m .places) g ≡ 0
-  unfolding rowRefusal isEnrolled
-  none-refuses = rw (s .host, le-leb g 63 (omega (arith, l, all-long, all-kept .0)), lt-ltb g (groupCount (m .register)) (omega (arith, l, count)))
-
-  read : rowOf (m .register) (m .book) (m .places) g ≡ rowAt (m .register) (m .book) g
-  unfolding rowOf
-  read = where-accepted (rowAt (m .register) (m .book) g) (refusedRow (rowRefusal (m .register) (m .book) (m .places) g)) (rowRefusal (m .register) (m .book) (m .places) g) none-refuses
-
-  handed-as : HandedAs h m g
-  handed-as =
-      let z : (rowOf (m .register) (m .book) (m .places) g) .refusal ≡ 0 = ap (λ (x : RowRead). x .refusal) read ∙ kept-clear (m .register) (m .book) g row-kept in
-      let e : (rowOf (m .register) (m .book) (m .places) g) .row ≡ historyRow h g = ap (λ (x : RowRead). x .row) read ∙ same-row in
-      record {
-        refusal = room-decides m g (historyRow h g) z e;
-        row = row-decides m g (historyRow h g) z e;
-      }
-
-pub row-demand : RowDemand
-row-demand lent o cs g l =
-    handed-as (placesLent lent) (after (placesLent lent) shanghai atOpening cs) (run shanghai (opened lent) cs)
+-- after every list of calls from a fresh gate a row is read, and is the history's
+pub row-read : (lent : Memory) → openRefusal lent ≡ 0 → (cs : List Call) (g : ℕ) → g < length ((after (placesLent lent) shanghai atOpening cs) .groups)
+    → ReadAs (run shanghai (opened lent) cs) g (historyRow (after (placesLent lent) shanghai atOpening cs) g)
+row-read lent o cs g l =
+    read-as (placesLent lent) (after (placesLent lent) shanghai atOpening cs) (run shanghai (opened lent) cs)
     (run-sim (placesLent lent) shanghai cs atOpening (opened lent) (opened-sim lent o))
     (demand lent o cs .either-market .same-groups)
     (listing-demand lent o cs)
     g
     l
+
+pub row-demand : RowDemand
+row-demand lent o cs g l =
+    let r = row-read lent o cs g l in
+    let m : Memory = run shanghai (opened lent) cs in
+    let row : Row = historyRow (after (placesLent lent) shanghai atOpening cs) g in
+    record { refusal = room-decides m g row (r .0) (r .1); row = row-decides m g row (r .0) (r .1) }

@@ -1,9 +1,9 @@
--- `router::put_row` meets its contract. Assumes nothing.
+-- `router::puts::put_row` meets its contract. Assumes nothing.
 use denote.Ref.{now}
 use Rattle.router.proofs.Handing.{row-put}
 use borrow.Author.Needs.{needs}
-use Rattle.router.proofs.put_row.Statement.{statement}
-use Rattle.router.proofs.put_row.Tie as tie
+use Rattle.router.proofs.puts.put_row.Statement.{statement}
+use Rattle.router.proofs.puts.put_row.Tie as tie
 
 limit-word-requires : tie.Need-limit-word-requires
 limit-word-requires c κs = search needs
