@@ -59,6 +59,10 @@ why_build() { # NAME
         echo "there is no program target/bin/$1 yet"
         return
     fi
+    if [ -e "$top/target/log/$1-build.began" ]; then
+        echo "the last build of target/bin/$1 failed or was stopped"
+        return
+    fi
     for crate in $(crates_of "$1"); do
         for part in src specs proofs; do
             [ ! -d "$top/crates/$crate/$part" ] || parts+=("$top/crates/$crate/$part")
@@ -98,23 +102,27 @@ build() { # NAME...
     exec {lock}>&-
 }
 
-# One rt check. Afterwards the programs bear the time at which it began: a file that was edited meanwhile is newer, and a program that rt
-# found unchanged is not looked at again. Where the check fails they are made old, so that no wrapper runs them: rt may have linked a new one
-# and then refused it.
+# One rt check. A file PROGRAM-build.began is there from its start until it has ended well: rt may have linked a program and then refused it, or
+# been stopped. Afterwards the programs bear the time at which the check began: a file that was edited meanwhile is newer, and a program that rt
+# found unchanged is not looked at again.
 prove() { # NAME...
-    local log=target/log/$name-build.log began=$top/target/log/$name-build.began program status
+    local log=target/log/$name-build.log program status
     complain "$reason"
     complain "proving once, about 5 minutes and 2 GB (less where little has changed); the prover's words: $log"
-    : > "$began" || die "$began can't be written"
+    for program in "$@"; do
+        : > "$top/target/log/$program-build.began" || die "target/log can't be written"
+    done
     (cd "$top" && exec rt check "$@" < /dev/null 2>&1) | tee "$top/$log" | show_progress "$(crates_of "$@" | wc -l)"
     status=${PIPESTATUS[0]}
-    for program in "${@/#/$top/target/bin/}"; do
-        [ "$status" -ne 0 ] || [ -x "$program" ] || status=1
-        if [ "$status" -eq 0 ]; then touch -r "$began" "$program"; elif [ -e "$program" ]; then touch -t 197001020000 "$program"; fi
+    for program in "$@"; do
+        if [ "$status" -ne 0 ] || [ ! -x "$top/target/bin/$program" ]; then not_built "$log" "$@"; fi
+        touch -r "$top/target/log/$program-build.began" "$top/target/bin/$program" && rm "$top/target/log/$program-build.began"
     done
-    [ "$status" -ne 0 ] || return 0
-    tail -n 20 "$top/$log" >&2
-    die "rt check $* failed, so nothing was run; all of the prover's words are in $top/$log"
+}
+
+not_built() { # LOG NAME...
+    tail -n 20 "$top/$1" >&2
+    die "rt check ${*:2} failed, so nothing was run; all of the prover's words are in $top/$1"
 }
 
 # Counts the crates that rt says are proved: one line, written over, on a terminal; else a line for each.
