@@ -1,5 +1,5 @@
 /* Document 01's day through the library: a gate of 2,048 places is opened, eleven calls are made, each answer is printed as gateday prints
- * it, then the listing. Build: cc -O2 -Iinclude examples/day.c target/staticlib/librouter.a -o day */
+ * it, then the listing. Build: cc -O2 -Iinclude examples/day.c target/lib/libekhurtza.a -o day */
 #include <inttypes.h>
 #include <stdio.h>
 
