@@ -9,7 +9,7 @@ import pathlib
 import sys
 
 REGISTER, BOOK, PLACE = 2000, 194, 4
-ROW_BYTES, ROW_WORDS, LINE_BYTES, MOST_GROUPS = 108, 9, 39, 64
+ROW_BYTES, ROW_WORDS, CALL_BYTES, MOST_GROUPS = 108, 9, 39, 64
 NOT_THERE, NO_MAXIMUM = 6, 15
 DASH = 2**64 - 1
 LIMIT_BUY = 1
@@ -89,8 +89,8 @@ class Gate:
 
 
 def call_line(lib, *call):
-    line = (ctypes.c_uint8 * LINE_BYTES)()
-    accept(lib.ekhurtza_call_line(*call, line, LINE_BYTES))
+    line = (ctypes.c_uint8 * CALL_BYTES)()
+    accept(lib.ekhurtza_call_line(*call, line, CALL_BYTES))
     return bytes(line)
 
 

@@ -118,7 +118,7 @@ private:
 
 // The call line of a call, line feed included.
 inline std::string call_line(std::uint64_t code, std::uint64_t a = 0, std::uint64_t b = 0, std::uint64_t c = 0, std::uint64_t d = 0) {
-    std::uint8_t line[EKHURTZA_LINE_BYTES] = {};
+    std::uint8_t line[EKHURTZA_CALL_BYTES] = {};
     const std::uint64_t refusal = ekhurtza_call_line(code, a, b, c, d, line, sizeof line);
     if (refusal != EKHURTZA_ACCEPTED) throw Refused(refusal);
     return std::string(line, line + sizeof line);

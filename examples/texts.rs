@@ -3,7 +3,7 @@
 // paper; its sentence, or the sum, stands beside them. A random day then ties the room to the row and to the next buy.
 mod gate;
 
-use gate::{call_line, read_row, Gate, BOOK, DASH, LINE_BYTES, MOST_GROUPS, PLACE, REGISTER, ROW_BYTES, ROW_WORDS};
+use gate::{call_line, read_row, Gate, BOOK, DASH, CALL_BYTES, MOST_GROUPS, PLACE, REGISTER, ROW_BYTES, ROW_WORDS};
 
 // document 01's input, and its listing
 const LINES: &str = include_str!("../crates/gateday/stdin");
@@ -34,9 +34,9 @@ fn opened() -> Gate {
 fn line_of(call: [u64; 5], bytes: usize) -> (u64, Vec<u8>) {
     let mut line = vec![7; bytes];
     let refusal = call_line(call, &mut line);
-    let kept = if refusal == 0 { LINE_BYTES } else { 0 };
+    let kept = if refusal == 0 { CALL_BYTES } else { 0 };
     assert!(line[kept..].iter().all(|&byte| byte == 7), "{call:?} wrote behind its line, or is refused and wrote");
-    line.truncate(LINE_BYTES);
+    line.truncate(CALL_BYTES);
     (refusal, line)
 }
 

@@ -31,7 +31,7 @@ extern "C" {
 #define EKHURTZA_ROW_BYTES 108 /* bytes a group in a listing, line feed included */
 #define EKHURTZA_ROW_WORDS 9   /* words of a row */
 #define EKHURTZA_ROOM_WORDS 2  /* words of a room */
-#define EKHURTZA_LINE_BYTES 39 /* bytes of a call line, line feed included */
+#define EKHURTZA_CALL_BYTES 39 /* bytes of a call line, line feed included */
 
 /* The ranges of fields ("Money and names"): from 0, but price and quantity from 1, order from 1, class from 1. Outside them a call is refused by 2.
  * A mil is 0.001 yuan. Prices and amounts are in mils, quotas and bases in millions of yuan. */

@@ -16,7 +16,7 @@ public final class Gate {
     }
 
     public static final int REGISTER_WORDS = 2000, BOOK_WORDS = 194, PLACE_WORDS = 4;
-    public static final int ROW_BYTES = 108, ROW_WORDS = 9, LINE_BYTES = 39, MOST_GROUPS = 64;
+    public static final int ROW_BYTES = 108, ROW_WORDS = 9, CALL_BYTES = 39, MOST_GROUPS = 64;
     public static final int NOT_THERE = 6, NO_MAXIMUM = 15;
     public static final long DASH = -1; // 2^64 - 1
 
@@ -58,9 +58,9 @@ public final class Gate {
 
     /** The call line of a call, line feed included. */
     public static String callLine(long code, long a, long b, long c, long d) {
-        ByteBuffer line = ByteBuffer.allocateDirect(LINE_BYTES);
+        ByteBuffer line = ByteBuffer.allocateDirect(CALL_BYTES);
         accept(callLine(code, a, b, c, d, line));
-        return text(line, LINE_BYTES);
+        return text(line, CALL_BYTES);
     }
 
     /** The rows of a listing's text; refused by 21 where it is none. */
