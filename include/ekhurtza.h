@@ -48,7 +48,7 @@ extern "C" {
 #define EKHURTZA_MOST_UNITS 256         /* attached units */
 #define EKHURTZA_MOST_DECLARERS 8       /* declarers of a group with a figure standing ("Quotas") */
 #define EKHURTZA_THRESHOLD 100000       /* millions: regular figures give no more; a raise above it bears flag 1 ("Quotas") */
-#define EKHURTZA_MILS_A_MILLION 1000000000 /* mils in a million yuan */
+#define EKHURTZA_MILS_A_MILLION INT64_C(1000000000) /* mils in a million yuan; 64 bits, since three millions pass an int */
 #define EKHURTZA_TOP_MONEY UINT64_C(6553599344640000000) /* L, mils: no group's open + bought + sold passes it; below 2^63 */
 
 /* Control classes ("Money and names"). */
