@@ -1,5 +1,5 @@
 /* Document 01's day through the library: a gate of 2,048 places is opened, eleven calls are made, each answer is printed as gateday prints
- * it, then the listing. Build: cc -O2 -Iinclude examples/day.c target/staticlib/librouter.a -o day */
+ * it, then the listing. Build: cc -O2 -Iinclude examples/day.c target/lib/libekhurtza.a -o day */
 #include <inttypes.h>
 #include <stdio.h>
 
@@ -13,14 +13,14 @@ static uint64_t places[EKHURTZA_PLACE * N];
 static uint8_t listing[EKHURTZA_ROW_BYTES * EKHURTZA_MOST_GROUPS];
 
 static const uint64_t day[][5] = {
-    {EKHURTZA_ENROL, 1, 1, 0, 0},
+    {EKHURTZA_ENROL, 1, EKHURTZA_PROPRIETARY, 0, 0},
     {EKHURTZA_ATTACH, 20001, 0, 0, 0},
     {EKHURTZA_REGULAR, 1, 0, 3, 8},
     {EKHURTZA_CLOSE, 0, 0, 0, 0},
     {EKHURTZA_OWN_QUOTA, 0, 5, 0, 0},
-    {EKHURTZA_ORDER, 20001, 1, 12500, 300000},
-    {EKHURTZA_ORDER, 20001, 1, 10000, 200000},
-    {EKHURTZA_ORDER, 20001, 1, 10000, 200000},
+    {EKHURTZA_ORDER, 20001, EKHURTZA_LIMIT_BUY, 12500, 300000},
+    {EKHURTZA_ORDER, 20001, EKHURTZA_LIMIT_BUY, 10000, 200000},
+    {EKHURTZA_ORDER, 20001, EKHURTZA_LIMIT_BUY, 10000, 200000},
     {EKHURTZA_FILL, 1, 12400, 100000, 0},
     {EKHURTZA_CANCEL, 2, 0, 0, 0},
     {EKHURTZA_FILL, 1, 12600, 1, 0},

@@ -1,5 +1,5 @@
 // Document 01's day through the library: a gate of 2,048 places is opened, eleven calls are made, each answer is printed as gateday prints
-// it, then the listing. Build: rustc -O --edition 2021 examples/day.rs -L target/staticlib -l static=router -o day
+// it, then the listing. Build: rustc -O --edition 2021 examples/day.rs -L target/lib -l static=ekhurtza -o day
 mod gate;
 
 use gate::{Gate, BOOK, MOST_GROUPS, PLACE, REGISTER, ROW_BYTES, ROW_WORDS};

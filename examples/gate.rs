@@ -7,6 +7,8 @@ pub const BOOK: usize = 194;
 pub const PLACE: usize = 4;
 pub const ROW_BYTES: usize = 108;
 pub const ROW_WORDS: usize = 9;
+pub const ROOM_WORDS: usize = 2;
+pub const CALL_BYTES: usize = 39;
 pub const MOST_GROUPS: usize = 64;
 pub const UNSOUND: u64 = 1;
 pub const DASH: u64 = u64::MAX;
@@ -23,6 +25,9 @@ extern "C" {
     fn ekhurtza_call(reg: *mut u32, reg_words: usize, book: *mut u64, book_words: usize, places: *mut u64, places_words: usize, code: u64, a: u64, b: u64, c: u64, d: u64) -> Answer;
     fn ekhurtza_listing(reg: *const u32, reg_words: usize, book: *const u64, book_words: usize, places: *const u64, places_words: usize, buffer: *mut u8, buffer_bytes: usize) -> Answer;
     fn ekhurtza_row(reg: *const u32, reg_words: usize, book: *const u64, book_words: usize, places: *const u64, places_words: usize, group: u64, out: *mut u64, out_words: usize) -> u64;
+    fn ekhurtza_room(reg: *const u32, reg_words: usize, book: *const u64, book_words: usize, places: *const u64, places_words: usize, group: u64, out: *mut u64, out_words: usize) -> u64;
+    fn ekhurtza_read_row(text: *const u8, text_bytes: usize, k: u64, out: *mut u64, out_words: usize) -> u64;
+    fn ekhurtza_call_line(code: u64, a: u64, b: u64, c: u64, d: u64, line: *mut u8, line_bytes: usize) -> u64;
 }
 
 // All of a gate is these words: a copy of them is a copy of the gate.
@@ -55,4 +60,20 @@ impl Gate {
     pub fn row(&self, group: u64, out: &mut [u64]) -> u64 {
         unsafe { ekhurtza_row(self.register.as_ptr(), self.register.len(), self.book.as_ptr(), self.book.len(), self.places.as_ptr(), self.places.len(), group, out.as_mut_ptr(), out.len()) }
     }
+
+    // Own quota - net: 1 where it is below 0, else 0; and its size in mils.
+    pub fn room(&self, group: u64, out: &mut [u64]) -> u64 {
+        unsafe { ekhurtza_room(self.register.as_ptr(), self.register.len(), self.book.as_ptr(), self.book.len(), self.places.as_ptr(), self.places.len(), group, out.as_mut_ptr(), out.len()) }
+    }
+}
+
+// Row k, from 0, of a listing's text.
+pub fn read_row(text: &[u8], k: u64, out: &mut [u64]) -> u64 {
+    unsafe { ekhurtza_read_row(text.as_ptr(), text.len(), k, out.as_mut_ptr(), out.len()) }
+}
+
+// The call line of a call, line feed included.
+pub fn call_line(call: [u64; 5], line: &mut [u8]) -> u64 {
+    let [code, a, b, c, d] = call;
+    unsafe { ekhurtza_call_line(code, a, b, c, d, line.as_mut_ptr(), line.len()) }
 }

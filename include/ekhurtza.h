@@ -1,10 +1,11 @@
-/* Ekhurtza: the front-end capital control gate, Shanghai market, for order routers in C.
+/* Ekhurtza: the front-end capital control gate, Shanghai market, for order routers in C and C++ (C99, C++17).
  *
- * Four functions over memory that the router lends; the library keeps nothing between calls, allocates nothing and writes no file. Each is
+ * Seven functions over memory that the router lends; the library keeps nothing between calls, allocates nothing and writes no file. Each is
  * proved, for memory of any content and any length, to answer and to leave behind exactly what its contract says (crates/router/src/lib.rt).
  * docs/EMBEDDING.md says who owns which memory and what the caller owes: every pointer is valid for its length, and no two slices overlap.
+ * docs/FORMATS.md has the lines and columns, and in tables what each number below means. Names in quotes are sections of document 01.
  *
- * Link target/staticlib/librouter.a (x86-64 Linux), made by `rt staticlib router`.
+ * Link libekhurtza.a or libekhurtza.so (x86-64 Linux): `make library`, `make install PREFIX=..`, then `pkg-config --cflags --libs ekhurtza`.
  */
 #ifndef EKHURTZA_H
 #define EKHURTZA_H
@@ -16,6 +17,11 @@
 extern "C" {
 #endif
 
+#define EKHURTZA_VERSION "1.0.0"
+#define EKHURTZA_VERSION_MAJOR 1 /* another: what was compiled before no longer links or answers as before */
+#define EKHURTZA_VERSION_MINOR 0 /* more functions or numbers, none changed */
+#define EKHURTZA_VERSION_PATCH 0 /* neither */
+
 /* How much to lend: the register in words of 32 bits, book and places in words of 64 bits. */
 #define EKHURTZA_REGISTER 2000 /* words of 32 bits: groups, quotas, units */
 #define EKHURTZA_BOOK 194      /* words of 64 bits: N, orders accepted, each group's money */
@@ -24,10 +30,44 @@ extern "C" {
 #define EKHURTZA_MOST_GROUPS 64
 #define EKHURTZA_ROW_BYTES 108 /* bytes a group in a listing, line feed included */
 #define EKHURTZA_ROW_WORDS 9   /* words of a row */
+#define EKHURTZA_ROOM_WORDS 2  /* words of a room */
+#define EKHURTZA_CALL_BYTES 39 /* bytes of a call line, line feed included */
 
-/* The calls, by code, with their fields in order; fields that a call does not use are ignored. Quotas and bases are in millions of yuan, prices
- * in mils (0.001 yuan). */
-#define EKHURTZA_ENROL 1      /* institution code, class (1, 3, 4): gives the group number, from 0 */
+/* The ranges of fields ("Money and names"): from 0, but price and quantity from 1, order from 1, class from 1. Outside them a call is refused by 2.
+ * A mil is 0.001 yuan. Prices and amounts are in mils, quotas and bases in millions of yuan. */
+#define EKHURTZA_TOP_PRICE 9999999      /* mils; a market sell's is 0, a repo's EKHURTZA_REPO_PRICE */
+#define EKHURTZA_REPO_PRICE 100000      /* mils: 100 yuan ("Orders") */
+#define EKHURTZA_TOP_QUANTITY 10000000  /* of an order or a fill */
+#define EKHURTZA_TOP_CODE 99999         /* institution code */
+#define EKHURTZA_TOP_UNIT 99999         /* trading unit */
+#define EKHURTZA_TOP_DECLARER 99999     /* settlement participant */
+#define EKHURTZA_TOP_GROUP 63           /* group number */
+#define EKHURTZA_TOP_CLASS 4            /* control class */
+#define EKHURTZA_TOP_ORDER 65536        /* order number */
+#define EKHURTZA_TOP_QUOTA 9999999      /* quota and asset base, millions; of an emergency raise from 1 */
+#define EKHURTZA_MOST_UNITS 256         /* attached units */
+#define EKHURTZA_MOST_DECLARERS 8       /* declarers of a group with a figure standing ("Quotas") */
+#define EKHURTZA_THRESHOLD 100000       /* millions: regular figures give no more; a raise above it bears flag 1 ("Quotas") */
+#define EKHURTZA_MILS_A_MILLION INT64_C(1000000000) /* mils in a million yuan; 64 bits, since three millions pass an int */
+#define EKHURTZA_TOP_MONEY UINT64_C(6553599344640000000) /* L, mils: no group's open + bought + sold passes it; below 2^63 */
+
+/* Control classes ("Money and names"). */
+#define EKHURTZA_PROPRIETARY 1      /* member proprietary: the firm alone declares; quota is base * 2.5, rounded half up */
+#define EKHURTZA_BROKERAGE 2        /* member brokerage: not controlled, enrolling it is refused by 3 */
+#define EKHURTZA_ASSET_MANAGEMENT 3 /* member asset management: quota is the base */
+#define EKHURTZA_INSTITUTION 4      /* institution business: quota is the base */
+
+/* Kinds of orders ("Orders"). 1, 2 and 3 are buys: they need room, and their open quantity counts at the order's price from the start. The others
+ * count only when filled. A fill at a price that the kind does not allow is refused by 20. */
+#define EKHURTZA_LIMIT_BUY 1      /* price 1 to 9,999,999; filled at or below it */
+#define EKHURTZA_MARKET_BUY 2     /* price is the day's upper limit price, 1 to 9,999,999; filled at or below it */
+#define EKHURTZA_REPO_LENDING 3   /* price 100,000; filled at 100,000 */
+#define EKHURTZA_LIMIT_SELL 4     /* price 1 to 9,999,999; filled at or above it */
+#define EKHURTZA_MARKET_SELL 5    /* price 0; filled at any price, 1 to 9,999,999 */
+#define EKHURTZA_REPO_BORROWING 6 /* price 100,000; filled at 100,000 */
+
+/* The calls ("The eleven calls"), by code, with their fields in order; fields that a call does not use are ignored. */
+#define EKHURTZA_ENROL 1      /* institution code, class (1, 3 or 4): gives the group number, from 0 */
 #define EKHURTZA_ATTACH 2     /* unit, group */
 #define EKHURTZA_DETACH 3     /* unit */
 #define EKHURTZA_REGULAR 4    /* declarer, group, base, quota */
@@ -61,7 +101,8 @@ extern "C" {
 #define EKHURTZA_NOT_GIVEN 18           /* order number not given since the close */
 #define EKHURTZA_ABOVE_OPEN 19          /* quantity above the open quantity; cancel with none open */
 #define EKHURTZA_WORSE_FILL 20          /* fill price worse than the order allows */
-#define EKHURTZA_SHORT_BUFFER 22        /* buffer of a listing or a row too short */
+#define EKHURTZA_MALFORMED 21           /* text not of the stated form: a listing that is read; a call line of gateday */
+#define EKHURTZA_SHORT_BUFFER 22        /* buffer of a listing, a row, a room or a call line too short */
 
 /* What a call answers: the refusal, or 0; and the number given at calls 1 and 8, else 0. Of a listing: the bytes written, 0 where it is refused. */
 struct ekhurtza_answer {
@@ -84,6 +125,20 @@ struct ekhurtza_answer ekhurtza_listing(const uint32_t *reg, size_t reg_words, c
  * Refused by 1, 2 (group above 63), 6 (not enrolled) or 22 (fewer than 9 words); then no word is written. */
 uint64_t ekhurtza_row(const uint32_t *reg, size_t reg_words, const uint64_t *book, size_t book_words, const uint64_t *places, size_t places_words, uint64_t group, uint64_t *out, size_t out_words);
 
+/* The room of a group, own quota - net in mils: a buy passes exactly where it is 1 or more. out[0] is 1 where it is below 0, else 0; out[1] is its
+ * size, below 2^63; the rest keeps its contents. Refused by 1, 2, 6 as ekhurtza_row, 15 (the maximum is none) or 22 (fewer than 2 words); then no
+ * word is written. */
+uint64_t ekhurtza_room(const uint32_t *reg, size_t reg_words, const uint64_t *book, size_t book_words, const uint64_t *places, size_t places_words, uint64_t group, uint64_t *out, size_t out_words);
+
+/* Row k, from 0, of a listing's text into the first 9 words of `out`, as ekhurtza_row hands it out; the rest keeps its contents. The whole text is
+ * checked each time. Refused in this order by 21 (the text is no listing), 6 (it has no row k) or 22 (fewer than 9 words); then no word is written. */
+uint64_t ekhurtza_read_row(const uint8_t *text, size_t text_bytes, uint64_t k, uint64_t *out, size_t out_words);
+
+/* The call line, 38 bytes and a line feed, of a call by its code and fields; the rest of the buffer keeps its contents. Fields that the call does not
+ * use are written 0 and not looked at. Refused by 2 (a code other than 1 to 11, or a used field above 999,999,999, which no column holds) or 22 (fewer
+ * than 39 bytes); then no byte is written. What the call answers to a field outside its range is another matter: such a line can be written. */
+uint64_t ekhurtza_call_line(uint64_t code, uint64_t a, uint64_t b, uint64_t c, uint64_t d, uint8_t *line, size_t line_bytes);
+
 /* The words of a row, in the order of a listing's columns. Money is in mils. */
 #define EKHURTZA_ROW_CODE 0
 #define EKHURTZA_ROW_CLASS 1
@@ -97,6 +152,36 @@ uint64_t ekhurtza_row(const uint32_t *reg, size_t reg_words, const uint64_t *boo
 
 /* "-": a maximum of none, and then no own quota. */
 #define EKHURTZA_DASH UINT64_MAX
+
+/* A refusal in words, those of docs/FORMATS.md, "Refusal numbers". */
+static inline const char *ekhurtza_meaning(uint64_t refusal) {
+    switch (refusal) {
+    case EKHURTZA_ACCEPTED: return "accepted";
+    case EKHURTZA_UNSOUND: return "the host's memory: N, a figure out of its range, a total that would leave 0 to L; a row that would break its rules";
+    case EKHURTZA_OUT_OF_RANGE: return "a field outside its range or its kind's price rule; emergency quota 0; flag above 1";
+    case EKHURTZA_NOT_CONTROLLED: return "enrolling class 2";
+    case EKHURTZA_ALREADY_THERE: return "group already enrolled, unit already attached";
+    case EKHURTZA_NO_ROOM: return "64 groups or 256 units already";
+    case EKHURTZA_NOT_THERE: return "group not enrolled, unit not attached";
+    case EKHURTZA_NOT_THE_FIRM: return "class 1 and the declarer isn't the code";
+    case EKHURTZA_NOT_FROM_BASE: return "quota doesn't follow from the base";
+    case EKHURTZA_NOTHING_TO_WITHDRAW: return "nothing to withdraw, or withdrawal already filed";
+    case EKHURTZA_EIGHT_STAND: return "new declarer while eight stand";
+    case EKHURTZA_HELD_BY_ANOTHER: return "emergency held by another declarer, no withdrawal filed";
+    case EKHURTZA_NOT_ABOVE_MAXIMUM: return "emergency quota not above the maximum in force";
+    case EKHURTZA_WRONG_FLAG: return "flag disagrees with the threshold of 100,000 millions";
+    case EKHURTZA_ABOVE_MAXIMUM: return "own quota above the maximum";
+    case EKHURTZA_NO_MAXIMUM: return "maximum is none";
+    case EKHURTZA_QUOTA_REACHED: return "buy with net at or above the own quota";
+    case EKHURTZA_NO_PLACE: return "N orders accepted since the close";
+    case EKHURTZA_NOT_GIVEN: return "order number not given since the close";
+    case EKHURTZA_ABOVE_OPEN: return "quantity above the open quantity; cancel with none open";
+    case EKHURTZA_WORSE_FILL: return "fill price worse than the order's";
+    case EKHURTZA_MALFORMED: return "text not of the stated form";
+    case EKHURTZA_SHORT_BUFFER: return "buffer too short; a listing takes 108 bytes a group";
+    default: return "unknown refusal";
+    }
+}
 
 #ifdef __cplusplus
 }
