@@ -1,4 +1,4 @@
-// The gate for order routers in C and Rust: seven functions over memory that the router lends, thin over the proved layers below. Each takes
+// The gate for order routers: seven functions over memory that the router lends, thin over the proved layers below. Each takes
 // memory of any content and any length; docs/EMBEDDING.md says how large it should be and what the caller owes. What a router may count on
 // beyond the seven contracts is proved in specs/: Safe.antt, Rows.antt, RoomLaws.antt, TextLaws.antt and LineLaws.antt.
 pub mod puts; // rows and rooms put into lent words
