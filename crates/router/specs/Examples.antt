@@ -13,11 +13,10 @@ use Rattle.rules.specs.Orders.{isBuy, priceRule, worseFill, netOf, shanghai, st
 use Rattle.rules.specs.Lists.{enrolRules, attachRules, regularRules, ownQuotaRules, orderRules, fillRules, cancelRules}
 use Rattle.rules.specs.Keyed.{find, put, without}
 use Rattle.rules.specs.Sums.{when, sumOver}
-use Rattle.rules.specs.declared.calls.Call.{Call}
-use Rattle.rules.specs.declared.calls.Call.the-variants.{Enrol, Attach, Regular, OwnQuota, Order, Fill, Cancel, Close}
 use Rattle.rules.specs.declared.quotas.Limit.the-variants.{Nothing, At}
 use Rattle.history.specs.Past.{atOpening, filledMoney, openIn, boughtIn, soldIn, moneyIn}
 use Rattle.history.specs.Answers.{isTaken, refusals, numberGiven, answer}
+use Rattle.history.specs.Examples.{input}
 use Rattle.history.specs.Runs.{accept, next, after}
 use Rattle.words.specs.Words.{splice}
 use Rattle.columns.specs.Texts.{bytes}
@@ -95,45 +94,30 @@ rooms =
 
 -- ---- after document 01's day ("Lines and columns"), in every gate of 2,048 places: 1,260,000,000 mils
 
-abbrev pub day : List Call
-day =
-    Enrol 1 1
-    ∷ Attach 20_001 0
-    ∷ Regular 1 0 (millions 3) (millions 8)
-    ∷ Close
-    ∷ OwnQuota 0 (millions 5)
-    ∷ Order 20_001 1 (mils 12_500) 300_000
-    ∷ Order 20_001 1 (mils 10_000) 200_000
-    ∷ Order 20_001 1 (mils 10_000) 200_000
-    ∷ Fill 1 (mils 12_400) 100_000
-    ∷ Cancel 2
-    ∷ Fill 1 (mils 12_600) 1
-    ∷ []
-
 abbrev daysRoom : Room
 daysRoom = record { given = true; left = record { below = false; size = mils 1_260_000_000 } }
 
 -- by the history
-day-left : (length ((after 2_048 shanghai atOpening day) .groups) ≡ 1) × (roomOf (historyRow (after 2_048 shanghai atOpening day) 0) ≡ daysRoom)
+day-left : (length ((after 2_048 shanghai atOpening input) .groups) ≡ 1) × (roomOf (historyRow (after 2_048 shanghai atOpening input) 0) ≡ daysRoom)
 unfolding answer after next numberGiven refusals accept isTaken find put without when sumOver filledMoney openIn boughtIn soldIn moneyIn netOf shanghai stops milsOf isBuy priceRule worseFill quotaDue closedQuota enrolRules attachRules regularRules ownQuotaRules orderRules fillRules cancelRules historyRow signedNet roomOf roomUnder difference
 day-left = (refl, refl)
 
 module _ (lent : Memory) (o : openRefusal lent ≡ 0) (n : placesLent lent ≡ 2_048) where
-  enrolled : 0 < length ((after (placesLent lent) shanghai atOpening day) .groups)
+  enrolled : 0 < length ((after (placesLent lent) shanghai atOpening input) .groups)
   enrolled =
-      let one : length ((after (placesLent lent) shanghai atOpening day) .groups) ≡ 1 = ap (λ (N : ℕ). length ((after N shanghai atOpening day) .groups)) n ∙ day-left .0 in
+      let one : length ((after (placesLent lent) shanghai atOpening input) .groups) ≡ 1 = ap (λ (N : ℕ). length ((after N shanghai atOpening input) .groups)) n ∙ day-left .0 in
       omega arith
 
-  left : roomOf (historyRow (after (placesLent lent) shanghai atOpening day) 0) ≡ daysRoom
-  left = ap (λ (N : ℕ). roomOf (historyRow (after N shanghai atOpening day) 0)) n ∙ day-left .1
+  left : roomOf (historyRow (after (placesLent lent) shanghai atOpening input) 0) ≡ daysRoom
+  left = ap (λ (N : ℕ). roomOf (historyRow (after N shanghai atOpening input) 0)) n ∙ day-left .1
 
-  pub day-refusal : (words : ℕ) → 2 ≤ words → roomRefusal (run shanghai (opened lent) day) 0 words ≡ 0
-  day-refusal words h = room-demand lent o day 0 enrolled .refusal words ∙ ap (λ (r : Room). leftRefusal r words) left ∙ rw (le-ltb words 2 h)
+  pub day-refusal : (words : ℕ) → 2 ≤ words → roomRefusal (run shanghai (opened lent) input) 0 words ≡ 0
+  day-refusal words h = room-demand lent o input 0 enrolled .refusal words ∙ ap (λ (r : Room). leftRefusal r words) left ∙ rw (le-ltb words 2 h)
 
-  pub day-room : roomPut (run shanghai (opened lent) day) 0 (7 ∷ 7 ∷ 7 ∷ []) ≡ 0 ∷ 1_260_000_000 ∷ 7 ∷ []
+  pub day-room : roomPut (run shanghai (opened lent) input) 0 (7 ∷ 7 ∷ 7 ∷ []) ≡ 0 ∷ 1_260_000_000 ∷ 7 ∷ []
   unfolding splice
   day-room =
-      room-demand lent o day 0 enrolled .room (7 ∷ 7 ∷ 7 ∷ [])
+      room-demand lent o input 0 enrolled .room (7 ∷ 7 ∷ 7 ∷ [])
       ∙ ap (λ (r : Room). leftPut r (7 ∷ 7 ∷ 7 ∷ [])) left
 
 -- ---- rows of texts
