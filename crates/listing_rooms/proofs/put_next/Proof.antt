@@ -24,7 +24,11 @@ mul-put-room : tie.Need-mul-put-room
 mul-put-room c = search needs
 
 put-room-requires : tie.Need-put-room-requires
-put-room-requires c κs = (c .before .before .before .before .before .before .before .pre .1 .1, row-kept (now (c .before .before .before .before .before .before .before .args .text)) (c .before .before .before .before .before .before .before .args .i) (c .before .before .before .before .before .before .before .pre .0) (c .before .before .before .before .before .before .before .pre .1 .0) (c .before .before .before .before .row-from .result) (c .before .before .before .before .row-from .ensures) (c .before .before .row .given .0 .0) (c .before .before .row .given .1))
+put-room-requires c κs =
+    let c2 = c .before .before in
+    let c4 = c2 .before .before in
+    let c7 = c4 .before .before .before in
+    (c7 .pre .1 .1, row-kept (now (c7 .args .text)) (c7 .args .i) (c7 .pre .0) (c7 .pre .1 .0) (c4 .row-from .result) (c4 .row-from .ensures) (c2 .row .given .0 .0) (c2 .row .given .1))
 
 enum-told : tie.Need-enum-told
 enum-told c = search needs
@@ -36,7 +40,12 @@ same-length : tie.Need-same-length
 same-length c = search needs
 
 returns : tie.Need-returns
-returns c = c .before .before .put-room .ensures ∙ ap (λ (x : Row). paste (now (c .before .before .before .before .before .before .before .before .before .before .args .out)) (roomBytes * c .before .before .before .before .before .before .before .before .before .before .args .i) (roomText x) roomBytes) (row-is (now (c .before .before .before .before .before .before .before .before .before .before .args .text)) (c .before .before .before .before .before .before .before .before .before .before .args .i) (c .before .before .before .before .before .before .before .before .before .before .pre .0) (c .before .before .before .before .before .before .before .before .before .before .pre .1 .0) (c .before .before .before .before .before .before .before .row-from .result) (c .before .before .before .before .before .before .before .row-from .ensures) (c .before .before .before .before .before .row .given .0 .0) (c .before .before .before .before .before .row .given .1))
+returns c =
+    let c2 = c .before .before in
+    let c5 = c2 .before .before .before in
+    let c7 = c5 .before .before in
+    let c10 = c7 .before .before .before in
+    c2 .put-room .ensures ∙ ap (λ (x : Row). paste (now (c10 .args .out)) (roomBytes * c10 .args .i) (roomText x) roomBytes) (row-is (now (c10 .args .text)) (c10 .args .i) (c10 .pre .0) (c10 .pre .1 .0) (c7 .row-from .result) (c7 .row-from .ensures) (c5 .row .given .0 .0) (c5 .row .given .1))
 
 returns-2 : tie.Need-returns-2
 returns-2 c = absurd (never-broken (now (c .before .before .before .before .before .args .text)) (c .before .before .before .before .before .args .i) (c .before .before .before .before .before .pre .0) (c .before .before .before .before .before .pre .1 .0) (c .before .before .row-from .result) (c .before .before .row-from .ensures) (c .enum-told .given .1))

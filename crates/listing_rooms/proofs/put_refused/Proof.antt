@@ -18,7 +18,11 @@ same-length : tie.Need-same-length
 same-length c = search needs
 
 returns : tie.Need-returns
-returns c = refused-written (now (c .before .before .before .before .before .before .before .before .before .before .args .out)) (c .before .before .before .before .before .before .before .put-plain .last .0) (c .before .before .put-text .last .0) (c .before .before .before .before .before .before .before .before .before .before .pre) (c .before .before .before .before .before .before .before .put-plain .ensures) (c .before .before .put-text .ensures)
+returns c =
+    let c2 = c .before .before in
+    let c7 = c2 .before .before .before .before .before in
+    let c10 = c7 .before .before .before in
+    refused-written (now (c10 .args .out)) (c7 .put-plain .last .0) (c2 .put-text .last .0) (c10 .pre) (c7 .put-plain .ensures) (c2 .put-text .ensures)
 
 pub put-refused-spec : {M : Type 1} → statement M
 put-refused-spec =

@@ -40,8 +40,15 @@ same-length : tie.Need-same-length
 same-length c = search needs
 
 returns : tie.Need-returns
-returns c = room-written (now (c .before .before .before .before .before .before .before .before .before .before .before .before .before .before .before .before .before .before .before .args .out)) (c .before .before .before .before .before .before .before .before .before .before .before .before .before .before .before .before .before .before .before .args .at) (c .before .before .before .before .before .before .before .before .before .before .before .before .before .before .before .before .before .before .before .args .row) (c .before .before .before .before .before .before .before .before .before .before .before .before .before .before .before .before .put-plain .last .0) (c .before .before .before .before .before .before .before .before .before .before .before .before .put-plain2 .last .0) (c .before .before .before .before .before .before .before .put-left .last .0) (c .before .before .put-text .last .0) (c .before .before .before .before .before .before .before .before .before .before .before .before .before .before .before .before .before .before .before .pre .0) (c .before .before .before .before .before .before .before .before .before .before .before .before .before .before .before .before .before .before .before .pre .1) (c .before .before .before .before .before .before .before .before .before .before .before .before .before .before .before .before .put-plain .ensures) (c .before .before .before .before .before .before .before .before .before .before .before .before .put-plain2 .ensures)
-    (c .before .before .before .before .before .before .before .put-left .ensures ∙ ap (λ (x : Room). leftPut (c .before .before .before .before .before .before .before .before .before .before .before .before .put-plain2 .last .0) (c .before .before .before .before .before .before .before .before .before .before .before .before .before .before .before .before .before .before .before .args .at + 7) x) (c .before .before .before .before .before .before .before .before .before .room-of .ensures)) (c .before .before .put-text .ensures)
+returns c =
+    let c2 = c .before .before in
+    let c7 = c2 .before .before .before .before .before in
+    let c9 = c7 .before .before in
+    let c12 = c9 .before .before .before in
+    let c16 = c12 .before .before .before .before in
+    let c19 = c16 .before .before .before in
+    room-written (now (c19 .args .out)) (c19 .args .at) (c19 .args .row) (c16 .put-plain .last .0) (c12 .put-plain2 .last .0) (c7 .put-left .last .0) (c2 .put-text .last .0) (c19 .pre .0) (c19 .pre .1) (c16 .put-plain .ensures) (c12 .put-plain2 .ensures)
+    (c7 .put-left .ensures ∙ ap (λ (x : Room). leftPut (c12 .put-plain2 .last .0) (c19 .args .at + 7) x) (c9 .room-of .ensures)) (c2 .put-text .ensures)
 
 pub put-room-spec : {M : Type 1} → statement M
 put-room-spec =

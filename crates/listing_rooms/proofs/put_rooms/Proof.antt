@@ -31,7 +31,11 @@ loop-less : tie.Need-loop-less Inv-loop μ-loop
 loop-less c = search needs
 
 loop-again : tie.Need-loop-again Inv-loop μ-loop
-loop-again c = (omega arith, search needs, rooms-step (now (c .before .before .before .before .before .before .before .before .args .text)) (now (c .before .before .before .before .before .before .before .before .args .out)) (c .before .before .before .before .before .loop .out) _ (c .before .before .before .before .before .loop .i) (omega (arith, c .before .before .before .before .before .before .before .before .pre .1 .0)) (omega (arith, c .before .before .before .before .before .before .before .before .pre .1 .1)) (c .before .before .before .before .before .loop .inv .2) (c .before .before .put-next .ensures))
+loop-again c =
+    let c2 = c .before .before in
+    let c5 = c2 .before .before .before in
+    let c8 = c5 .before .before .before in
+    (omega arith, search needs, rooms-step (now (c8 .args .text)) (now (c8 .args .out)) (c5 .loop .out) _ (c5 .loop .i) (omega (arith, c8 .pre .1 .0)) (omega (arith, c8 .pre .1 .1)) (c5 .loop .inv .2) (c2 .put-next .ensures))
 
 same-length : tie.Need-same-length Inv-loop μ-loop
 same-length c = search needs

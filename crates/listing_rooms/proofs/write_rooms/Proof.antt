@@ -21,10 +21,19 @@ same-length : tie.Need-same-length
 same-length c = search needs
 
 returns-2 : tie.Need-returns-2
-returns-2 c = put-refused (now (c .before .before .before .before .before .before .before .before .before .args .text)) (now (c .before .before .before .before .before .before .before .before .before .args .out)) (c .before .before .before .before .before .refusal-of-text .result) (c .before .before .before .before .before .refusal-of-text .ensures) (omega arith) _ (c .before .before .before .before .if2 .taken) (c .before .before .put-refused .ensures)
+returns-2 c =
+    let c2 = c .before .before in
+    let c4 = c2 .before .before in
+    let c5 = c4 .before in
+    let c9 = c5 .before .before .before .before in
+    put-refused (now (c9 .args .text)) (now (c9 .args .out)) (c5 .refusal-of-text .result) (c5 .refusal-of-text .ensures) (omega arith) _ (c4 .if2 .taken) (c2 .put-refused .ensures)
 
 put-rooms-requires : tie.Need-put-rooms-requires
-put-rooms-requires c κs = (listing-known (now (c .before .before .before .before .before .before .args .text)) (sym (c .before .before .refusal-of-text .ensures) ∙ c .before .if2 .left), (sym (count-rows (now (c .before .before .before .before .before .before .args .text))), omega (arith, count-rows (now (c .before .before .before .before .before .before .args .text)), rows-few (now (c .before .before .before .before .before .before .args .text)) (listing-known (now (c .before .before .before .before .before .before .args .text)) (sym (c .before .before .refusal-of-text .ensures) ∙ c .before .if2 .left)))))
+put-rooms-requires c κs =
+    let c1 = c .before in
+    let c2 = c1 .before in
+    let c6 = c2 .before .before .before .before in
+    (listing-known (now (c6 .args .text)) (sym (c2 .refusal-of-text .ensures) ∙ c1 .if2 .left), (sym (count-rows (now (c6 .args .text))), omega (arith, count-rows (now (c6 .args .text)), rows-few (now (c6 .args .text)) (listing-known (now (c6 .args .text)) (sym (c2 .refusal-of-text .ensures) ∙ c1 .if2 .left)))))
 
 mul-result : tie.Need-mul-result
 mul-result c = search needs
@@ -33,7 +42,12 @@ same-length-2 : tie.Need-same-length-2
 same-length-2 c = search needs
 
 returns-3 : tie.Need-returns-3
-returns-3 c = put-listed (now (c .before .before .before .before .before .before .before .before .before .args .text)) (now (c .before .before .before .before .before .before .before .before .before .args .out)) (c .before .before .before .before .before .refusal-of-text .result) (c .before .before .before .before .before .refusal-of-text .ensures) (omega arith) _ (c .before .before .before .before .if2 .left) (c .before .before .put-rooms .ensures)
+returns-3 c =
+    let c2 = c .before .before in
+    let c4 = c2 .before .before in
+    let c5 = c4 .before in
+    let c9 = c5 .before .before .before .before in
+    put-listed (now (c9 .args .text)) (now (c9 .args .out)) (c5 .refusal-of-text .result) (c5 .refusal-of-text .ensures) (omega arith) _ (c4 .if2 .left) (c2 .put-rooms .ensures)
 
 pub write-rooms-spec : {M : Type 1} → statement M
 write-rooms-spec =
