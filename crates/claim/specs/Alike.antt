@@ -72,7 +72,7 @@ module _ (N : ℕ) (h : History) (m n : Memory) (s : Sim N h m) (t : Sim N h n) 
         quota = quotas.quota-same h v (s .quota) i k ∙ sym (quotas.quota-same h w (t .quota) i l);
         figures = quotas.figures-same h v (s .quota) i k ∙ sym (quotas.figures-same h w (t .quota) i l);
       })
-      (s .quota .units ∙ sym (t .quota .units)) u
+      (s .quota .units ∙ sym (t .quota .units)) (s .quota .ratios ∙ sym (t .quota .ratios)) u
 
   -- "two memories that stand for one history, with the same places above the last number given, are equal"
   pub same-memory : UnusedAlike (m .register) (n .register) → SameUnused N h m n → m ≡ n

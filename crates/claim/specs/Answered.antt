@@ -6,7 +6,7 @@ use mathlib.Core.Path.{_≡_, refl}
 use mathlib.Core.List.{List, [], _∷_, _++_}
 use lib.ListN.{replicate, set}
 use Rattle.rules.specs.Money.{mils, millions, milsOf}
-use Rattle.rules.specs.Quotas.{quotaDue, closedQuota}
+use Rattle.rules.specs.Quotas.{quotaBy, closedQuota}
 use Rattle.rules.specs.Orders.{isBuy, priceRule, worseFill, netOf, shanghai, stops}
 use Rattle.rules.specs.Lists.{enrolRules, attachRules, detachRules, regularRules, raiseRules, withdrawRules, ownQuotaRules, orderRules, fillRules, cancelRules}
 use Rattle.rules.specs.Keyed.{find}
@@ -307,7 +307,7 @@ unfolding expected registerAsked bookAsked placesAsked elevenAsked step run open
     wordsOf place tab putWords recordAt putRecord addGroup isTaken words.run splice standingOf placeOf sumOf declaredFigures
     withdrawnFigures placeIn pairs sumOver when putAccepted moneyAt putMoney placeAt putPlace putOpen moneyFits bookedOrder bookedFill
     bookedCancel orderRefusal orderAnswer orderBook orderPlaces fillRefusal fillBook fillPlaces cancelRefusal cancelBook cancelPlaces
-    closedBook milsOf isBuy priceRule worseFill netOf shanghai stops quotaDue closedQuota enrolRules attachRules detachRules regularRules
+    closedBook milsOf isBuy priceRule worseFill netOf shanghai stops quotaBy closedQuota enrolRules attachRules detachRules regularRules
     raiseRules withdrawRules ownQuotaRules orderRules fillRules cancelRules find
 answered = record {
   openings = (refl, refl, refl);

@@ -2,7 +2,7 @@
 -- memory of any content with N = 4. Each case is carried over from the history by the third demand, and computed there.
 use Prim.{tt}
 use Prim.Native.Nat.{ℕ}
-use mathlib.Core.Path.{_≡_, refl, sym, subst, _∙_}
+use mathlib.Core.Path.{_≡_, refl, sym, subst, ap, _∙_}
 use mathlib.Core.Bool.{true}
 use mathlib.Core.List.{List, [], _∷_, _++_}
 use borrow.Author.Tests.{ltb-true}
@@ -10,7 +10,7 @@ use lib.Dec.{ltb}
 use lib.IntN.{ℤ, pos, negsuc}
 use lib.ListN.{length, replicate}
 use Rattle.rules.specs.Money.{mils, millions, milsOf}
-use Rattle.rules.specs.Quotas.{quotaDue, closedQuota, inForce}
+use Rattle.rules.specs.Quotas.{quotaBy, closedQuota, inForce}
 use Rattle.rules.specs.Orders.{isBuy, priceRule, worseFill, netOf, shanghai, stops}
 use Rattle.rules.specs.Calls.{accepted, refused}
 use Rattle.rules.specs.Lists.{enrolRules, attachRules, detachRules, regularRules, raiseRules, withdrawRules, ownQuotaRules, orderRules, fillRules, cancelRules}
@@ -26,14 +26,14 @@ use Rattle.rules.specs.declared.calls.Answer.{Answer}
 use Rattle.history.specs.Past.{History, atOpening, filledMoney, openIn, boughtIn, soldIn, moneyIn, moneyOf, netIn}
 use Rattle.history.specs.Past as past
 use Rattle.history.specs.Answers.{isTaken, refusals, numberGiven, answer}
-use Rattle.history.specs.Runs.{accept, next, after, answers}
+use Rattle.history.specs.Runs.{accept, next, after, answers, calls, afterAll, after-calls, answers-calls}
 use Rattle.register.specs.Layout.{groupAt, registerLength}
 use Rattle.quota.specs.Asks.{ownInForce}
 use Rattle.book.specs.Layout.{moneyAt, bookLength}
 use Rattle.claim.specs.Step.{Memory, memory}
 use Rattle.claim.specs.Opening.{placesLent, openRefusal}
 use Rattle.claim.specs.Demand.{run, answersOf, opened, RowIs}
-use Rattle.claim.specs.Theorem.{demand}
+use Rattle.claim.specs.Theorem.{demand, run-calls, answers-of-calls}
 
 -- what a case says of a list of calls: all its answers; or, of a group after it, the maximum, the own quota in force, the money, the net
 pub data Case : Type 0 where
@@ -157,7 +157,7 @@ a & b = (a, b)
 
 -- computed on the history
 told : Every (Told 4) edges
-unfolding answers answer after next numberGiven refusals accept isTaken find put without when sumOver filledMoney openIn boughtIn soldIn moneyIn netOf shanghai stops milsOf isBuy priceRule worseFill quotaDue closedQuota enrolRules attachRules detachRules regularRules raiseRules withdrawRules ownQuotaRules orderRules fillRules cancelRules
+unfolding answers answer after next numberGiven refusals accept isTaken find put without when sumOver filledMoney openIn boughtIn soldIn moneyIn netOf shanghai stops milsOf isBuy priceRule worseFill quotaBy closedQuota enrolRules attachRules detachRules regularRules raiseRules withdrawRules ownQuotaRules orderRules fillRules cancelRules
 told =
     refl
     & refl
@@ -191,13 +191,20 @@ told =
     & (refl, refl)
     & tt
 
+subst2 : {A B : Type 0} (P : A → B → Type 0) {a a′ : A} {b b′ : B} → a ≡ a′ → b ≡ b′ → P a b → P a′ b′
+subst2 P {a′ = a′} {b = b} p q x = subst (λ z. P a′ z) q (subst (λ z. P z b) p x)
+
 -- the third demand carries a case over to the gate
 module _ (lent : Memory) (o : openRefusal lent ≡ 0) where
   row : (cs : List Call) (g : ℕ) → ltb g (length ((pastOf (placesLent lent) cs) .groups)) ≡ true → RowIs (pastOf (placesLent lent) cs) (run shanghai (opened lent) cs) g
-  row cs g l = demand lent o cs .either-market .rows g (ltb-true g (length ((pastOf (placesLent lent) cs) .groups)) l)
+  row cs g l =
+      let a = after-calls (placesLent lent) shanghai atOpening cs in
+      let r = run-calls shanghai (opened lent) cs in
+      subst2 (λ h m. RowIs h m g) a r
+      (demand lent o (calls cs) .either-market .rows g (ltb-true g (length ((afterAll (placesLent lent) shanghai atOpening (calls cs)) .groups)) (ap (λ (h : History). ltb g (length (h .groups))) a ∙ l)))
 
   carried : (c : Case) → Told (placesLent lent) c → Holds (opened lent) c
-  carried (Answered cs as-told) t = demand lent o cs .either-market .same-answers ∙ t
+  carried (Answered cs as-told) t = sym (answers-of-calls shanghai (opened lent) cs) ∙ demand lent o (calls cs) .either-market .same-answers ∙ answers-calls (placesLent lent) shanghai atOpening cs ∙ t
   carried (MaximumIs cs g limit) t = row cs g (t .0) .maximum ∙ t .1
   carried (OwnIs cs g limit) t = row cs g (t .0) .own ∙ t .1
   carried (MoneyIs cs g money) t = row cs g (t .0) .money ∙ t .1

@@ -20,6 +20,8 @@ use Rattle.rules.specs.Calls.{inRange, accepted, refused}
 use Rattle.rules.specs.Refusals.{UNSOUND, refusal, unlessRefused}
 use Rattle.rules.specs.Lists.{orderRules}
 use Rattle.rules.specs.Laws.{clear, order-rises}
+use Rattle.rules.specs.Loads.{loaded}
+use Rattle.rules.specs.declared.loads.RatioFile.{RatioFile}
 use Rattle.rules.specs.declared.money.Millions.{Millions}
 use Rattle.rules.specs.declared.money.Mils.{Mils}
 use Rattle.rules.specs.declared.quotas.Limit.{Limit}
@@ -32,8 +34,8 @@ use Rattle.rules.specs.declared.calls.Answer.{Answer}
 use Rattle.history.specs.Past.{History, atOpening, inGroup, moneyIn, moneyOf, netIn}
 use Rattle.history.specs.Past as past
 use Rattle.history.specs.Answers.{isAttached, groupOf, orderReads, refusalOf, refusals, numberGiven, answer}
-use Rattle.history.specs.Runs.{accept, next, after, answers}
-use Rattle.history.specs.Laws.{never-unsound}
+use Rattle.history.specs.Runs.{accept, next, after, answers, Entry, Called, Loaded, calls, withTable, loadRefusal, entryRefusal, nextEntry, answerEntry, afterAll, answersAll}
+use Rattle.history.specs.Laws.{never-unsound-entry}
 use Rattle.quota.specs.Asks as asks
 use Rattle.quota.specs.Calls as quota
 use Rattle.quota.specs.Kept as kept
@@ -44,13 +46,13 @@ use Rattle.register.specs.Layout.{groupCount, registerLength}
 use Rattle.orders.specs.Host.{hostOk}
 use Rattle.orders.specs.Calls as orders
 use Rattle.orders.specs.Kept as booked
-use Rattle.claim.specs.Step.{Memory, Stepped, memory, bookSound, onRegister, enrolledBook, closing, closingSound, step}
+use Rattle.claim.specs.Step.{Memory, Stepped, memory, bookSound, onRegister, enrolledBook, closing, closingSound, step, stepEntry}
 use Rattle.claim.specs.Relation.{QuotaSim, OrderSim}
 use Rattle.claim.specs.QuotaSim as quotas
 use Rattle.claim.specs.OrderSums.{more-here}
 use Rattle.claim.specs.OrderSim as books
 use Rattle.claim.specs.Opening.{placesLent, openRefusal, freshRegister, freshBook, openRegister, openBook}
-use Rattle.claim.specs.Demand.{run, answersOf, opened, RowIs, ownOf, Passes, DemandBy, Demand, ThirdDemand}
+use Rattle.claim.specs.Demand.{run, answersOf, runAll, answersOfAll, opened, RowIs, ownOf, Passes, DemandBy, Demand, ThirdDemand}
 
 -- a gate's memory stands for a history
 pub record Sim (N : ℕ) (h : History) (m : Memory) : Type 0 where
@@ -271,6 +273,60 @@ module _ (N : ℕ) (rule : Rule) where
       let t = steps N rule h m s c in
       rw (t .same, run-answers cs (next N rule h c) ((step rule m c) .memory) (t .sim))
 
+-- ---- entries: calls, and loads
+
+pub record Entered (N : ℕ) (rule : Rule) (h : History) (m : Memory) (e : Entry) : Type 0 where
+  pub same : (stepEntry rule m e) .answer ≡ answerEntry N rule h e
+  pub sim : Sim N (nextEntry N rule h e) ((stepEntry rule m e) .memory)
+
+module _ (N : ℕ) (rule : Rule) (h : History) (m : Memory) (s : Sim N h m) where
+  loaded-sim : (f : RatioFile) (r : ℕ) → quota.loadRefusal (m .register) f ≡ r → Sim N (unlessRefused r (withTable h (loaded f)) h) (memory (quota.loadAfter (m .register) f) (m .book) (m .places))
+  loaded-sim f zero z =
+      let k = quotas.load-kept h (m .register) (s .quota) f z in
+      record {
+        quota = k;
+        order = books.same-orders N h (withTable h (loaded f)) (m .book) (m .places) refl (omega arith) (s .order);
+        host = books.host-again N h (m .register) (m .book) (m .places) (s .host) (s .order) (quota.loadAfter (m .register) f) (quotas.asks-sound (withTable h (loaded f)) (quota.loadAfter (m .register) f) k);
+      }
+  loaded-sim f (suc r) z =
+      let d : quota.loadRefusal (m .register) f ≢ 0 = λ y. omega arith in
+      rw (kept.load-refused (m .register) f d) s
+
+  pub entered : (e : Entry) → Entered N rule h m e
+  unfolding stepEntry answerEntry nextEntry
+  entered (Called c) = let t = steps N rule h m s c in record { same = t .same; sim = t .sim }
+  entered (Loaded f) =
+      let e = quotas.load-same h (m .register) (s .quota) N rule f in
+      record {
+        same = rw (book-sound m (s .host), e);
+        sim = rw (book-sound m (s .host), ← e) (loaded-sim f (quota.loadRefusal (m .register) f) refl);
+      }
+
+module _ (N : ℕ) (rule : Rule) where
+  pub all-sim : (es : List Entry) (h : History) (m : Memory) → Sim N h m → Sim N (afterAll N rule h es) (runAll rule m es)
+  unfolding afterAll runAll
+  all-sim [] h m s = s
+  all-sim (e ∷ es) h m s = all-sim es (nextEntry N rule h e) ((stepEntry rule m e) .memory) (entered N rule h m s e .sim)
+
+  pub all-answers : (es : List Entry) (h : History) (m : Memory) → Sim N h m → answersOfAll rule m es ≡ answersAll N rule h es
+  unfolding answersOfAll answersAll
+  all-answers [] h m s = refl
+  all-answers (e ∷ es) h m s =
+      let t = entered N rule h m s e in
+      rw (t .same, all-answers es (nextEntry N rule h e) ((stepEntry rule m e) .memory) (t .sim))
+
+-- calls alone
+module _ (rule : Rule) where
+  pub run-calls : (m : Memory) (cs : List Call) → runAll rule m (calls cs) ≡ run rule m cs
+  unfolding runAll run calls stepEntry
+  run-calls m [] = refl
+  run-calls m (c ∷ cs) = run-calls ((step rule m c) .memory) cs
+
+  pub answers-of-calls : (m : Memory) (cs : List Call) → answersOfAll rule m (calls cs) ≡ answersOf rule m cs
+  unfolding answersOfAll answersOf calls stepEntry
+  answers-of-calls m [] = refl
+  answers-of-calls m (c ∷ cs) = ap (λ (l : List Answer). (step rule m c) .answer ∷ l) (answers-of-calls ((step rule m c) .memory) cs)
+
 -- ---- the opening
 
 open-known : (lent : Memory) → openRefusal lent ≡ 0 → (eqb (length (lent .places)) (placeWords * placesLent lent) ≡ true) × (isPlaces (placesLent lent) ≡ true)
@@ -342,6 +398,19 @@ step-refusal N rule h m s c = ap (λ (a : Answer). a .refusal) (steps N rule h m
     go zero = refl
     go (suc r) = refl
 
+-- and of an entry
+pub entry-refusal : (N : ℕ) (rule : Rule) (h : History) (m : Memory) → Sim N h m → (e : Entry) → (stepEntry rule m e) .answer .refusal ≡ entryRefusal N rule h e
+unfolding answerEntry entryRefusal answer
+entry-refusal N rule h m s e = ap (λ (a : Answer). a .refusal) (entered N rule h m s e .same) ∙ go e
+  where
+    told : (n r : ℕ) → (unlessRefused r (accepted n) (refused r)) .refusal ≡ r
+    told n zero = refl
+    told n (suc r) = refl
+
+    go : (e : Entry) → (answerEntry N rule h e) .refusal ≡ entryRefusal N rule h e
+    go (Called c) = told (numberGiven N rule h c) (refusalOf N rule h c)
+    go (Loaded f) = told 0 (loadRefusal N rule h f)
+
 -- ---- buys: the history's list at a well-formed buy of an attached unit with a place free
 
 -- own quota in force, whether the rule lets the buy pass
@@ -382,18 +451,18 @@ buy-passes N rule h unit kind price quantity b r t l =
     (passing rule kind (ownOf h unit) (netIn h (groupOf h unit)) price quantity unit (moneyOf h (groupOf h unit)) b r refl)
 
 -- what holds by any rule
-demand-by : (rule : Rule) (N : ℕ) (m : Memory) → Sim N atOpening m → (cs : List Call) → DemandBy rule N m cs
-demand-by rule N m s cs =
-    let t = run-sim N rule cs atOpening m s in
+demand-by : (rule : Rule) (N : ℕ) (m : Memory) → Sim N atOpening m → (es : List Entry) → DemandBy rule N m es
+demand-by rule N m s es =
+    let t = all-sim N rule es atOpening m s in
     record {
-      same-answers = run-answers N rule cs atOpening m s;
-      same-groups = quotas.group-counts (after N rule atOpening cs) ((run rule m cs) .register) (t .quota);
-      rows = λ g l. row-is N (after N rule atOpening cs) (run rule m cs) t g l;
-      never-one = λ before c rest e. λ z.
-          never-unsound N rule (after N rule atOpening before) c (sym (step-refusal N rule (after N rule atOpening before) (run rule m before) (run-sim N rule before atOpening m s) c) ∙ z);
+      same-answers = all-answers N rule es atOpening m s;
+      same-groups = quotas.group-counts (afterAll N rule atOpening es) ((runAll rule m es) .register) (t .quota);
+      rows = λ g l. row-is N (afterAll N rule atOpening es) (runAll rule m es) t g l;
+      never-one = λ before e rest q. λ z.
+          never-unsound-entry N rule (afterAll N rule atOpening before) e (sym (entry-refusal N rule (afterAll N rule atOpening before) (runAll rule m before) (all-sim N rule before atOpening m s) e) ∙ z);
       buys = λ before unit kind price quantity rest e b r t l.
-          rw (step-refusal N rule (after N rule atOpening before) (run rule m before) (run-sim N rule before atOpening m s) (Order unit kind price quantity))
-          (buy-passes N rule (after N rule atOpening before) unit kind price quantity b r t l);
+          rw (step-refusal N rule (afterAll N rule atOpening before) (runAll rule m before) (all-sim N rule before atOpening m s) (Order unit kind price quantity))
+          (buy-passes N rule (afterAll N rule atOpening before) unit kind price quantity b r t l);
     }
 
 -- ---- Shanghai: what an accepted buy leaves
@@ -421,10 +490,10 @@ module _ (N : ℕ) (h : History) (unit kind : ℕ) (price : Mils) (quantity : �
       (below-pos (m .«open» .0 + price .0 * quantity + m .bought .0) (m .sold .0) ((milsOf own) .0 + price .0 * quantity)
       ∙ lt-ltb (m .«open» .0 + price .0 * quantity + m .bought .0) ((milsOf own) .0 + price .0 * quantity + m .sold .0) (omega arith))
 
-after-one : (N : ℕ) (rule : Rule) (before : List Call) (h : History) (c : Call) → after N rule h (before ++ (c ∷ [])) ≡ next N rule (after N rule h before) c
-unfolding after
+after-one : (N : ℕ) (rule : Rule) (before : List Entry) (h : History) (c : Call) → afterAll N rule h (before ++ (Called c ∷ [])) ≡ next N rule (afterAll N rule h before) c
+unfolding afterAll nextEntry
 after-one N rule [] h c = refl
-after-one N rule (x ∷ before) h c = after-one N rule before (next N rule h x) c
+after-one N rule (x ∷ before) h c = after-one N rule before (nextEntry N rule h x) c
 
 pub next-accepted : (N : ℕ) (rule : Rule) (h : History) (c : Call) → refusalOf N rule h c ≡ 0 → next N rule h c ≡ accept h c
 unfolding next
@@ -432,16 +501,15 @@ next-accepted N rule h c e = rw e
 
 -- the third demand
 pub demand : ThirdDemand
-demand lent o cs =
+demand lent o es =
     let N : ℕ = placesLent lent in
     let m : Memory = opened lent in
     let s = opened-sim lent o in
     record {
-      either-market = demand-by shanghai (placesLent lent) (opened lent) s cs;
+      either-market = demand-by shanghai (placesLent lent) (opened lent) s es;
       crossing = λ before unit kind price quantity rest own e b z k.
-          let H : History = after (placesLent lent) shanghai atOpening before in
-          let w = step-refusal (placesLent lent) shanghai (after (placesLent lent) shanghai atOpening before) (run shanghai (opened lent) before) (run-sim (placesLent lent) shanghai before atOpening (opened lent) s) (Order unit kind price quantity) in
-          let y : refusalOf (placesLent lent) shanghai (after (placesLent lent) shanghai atOpening before) (Order unit kind price quantity) ≡ 0 = sym w ∙ z in
-          rw (after-one (placesLent lent) shanghai before atOpening (Order unit kind price quantity), next-accepted (placesLent lent) shanghai (after (placesLent lent) shanghai atOpening before) (Order unit kind price quantity) y)
-          (buy-crosses (placesLent lent) (after (placesLent lent) shanghai atOpening before) unit kind price quantity b own y k);
+          let w = step-refusal (placesLent lent) shanghai (afterAll (placesLent lent) shanghai atOpening before) (runAll shanghai (opened lent) before) (all-sim (placesLent lent) shanghai before atOpening (opened lent) s) (Order unit kind price quantity) in
+          let y : refusalOf (placesLent lent) shanghai (afterAll (placesLent lent) shanghai atOpening before) (Order unit kind price quantity) ≡ 0 = sym w ∙ z in
+          rw (after-one (placesLent lent) shanghai before atOpening (Order unit kind price quantity), next-accepted (placesLent lent) shanghai (afterAll (placesLent lent) shanghai atOpening before) (Order unit kind price quantity) y)
+          (buy-crosses (placesLent lent) (afterAll (placesLent lent) shanghai atOpening before) unit kind price quantity b own y k);
     }

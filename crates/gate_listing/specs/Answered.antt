@@ -8,7 +8,7 @@ use native.Mathlib.Omega.{arith}
 use lib.ListN.{replicate}
 use lib.Seq.{paste}
 use Rattle.rules.specs.Money.{millions}
-use Rattle.rules.specs.Quotas.{quotaDue, closedQuota}
+use Rattle.rules.specs.Quotas.{quotaBy, closedQuota}
 use Rattle.rules.specs.Orders.{shanghai, netOf}
 use Rattle.rules.specs.Lists.{enrolRules, regularRules, ownQuotaRules}
 use Rattle.rules.specs.Keyed.{find, put, without}
@@ -69,7 +69,7 @@ module _ (lent : Memory) where
 
   module _ (o : openRefusal lent ≡ 0) where
     pub answered : Answered
-    unfolding enrols after next refusals accept isTaken find put without sumOver openIn boughtIn soldIn moneyIn netOf quotaDue closedQuota enrolRules regularRules ownQuotaRules byteAt marked number digits signedNet rowText listingText historyRow historyRowsOn historyRows
+    unfolding enrols after next refusals accept isTaken find put without sumOver openIn boughtIn soldIn moneyIn netOf quotaBy closedQuota enrolRules regularRules ownQuotaRules byteAt marked number digits signedNet rowText listingText historyRow historyRowsOn historyRows
     answered = record {
       none = (listing-demand lent o [] .refusal 0, listing-demand lent o [] .refusal 1);
       one = (listing-demand lent o (Enrol 1 1 ∷ []) .refusal 0, listing-demand lent o (Enrol 1 1 ∷ []) .refusal 107, listing-demand lent o (Enrol 1 1 ∷ []) .refusal 108, listing-demand lent o (Enrol 1 1 ∷ []) .refusal 109);

@@ -3,12 +3,16 @@ use Prim.Native.Nat.{ℕ, _≤_, _<_}
 use mathlib.Core.Path.{_≡_}
 use mathlib.Core.Bool.{true}
 use mathlib.Core.Logic.{_≢_}
+use lib.Dec.{ltb}
+use lib.ListN.{length}
 use Rattle.rules.specs.Orders.{Rule}
-use Rattle.rules.specs.Laws.{Applies, rising, rank, smallest, given, never-one, enrol-rises, attach-rises, detach-rises, regular-rises, raise-rises, withdraw-rises, own-quota-rises, order-rises, fill-rises, cancel-rises, close-rises}
+use Rattle.rules.specs.Laws.{Applies, rising, rank, smallest, given, never-one, enrol-rises, attach-rises, detach-rises, regular-rises, raise-rises, withdraw-rises, own-quota-rises, order-rises, fill-rises, cancel-rises, close-rises, load-rises}
+use Rattle.rules.specs.Loads.{loadRules}
 use Rattle.rules.specs.declared.calls.Call.{Call}
 use Rattle.rules.specs.declared.calls.Call.the-variants.{Enrol, Attach, Detach, Regular, Raise, Withdraw, OwnQuota, Order, Fill, Cancel, Close}
 use Rattle.history.specs.Past.{History}
 use Rattle.history.specs.Answers.{isAttached, enrolReads, attachReads, groupReads, figureReads, orderReads, placeReads, refusals, refusalOf}
+use Rattle.history.specs.Runs.{Entry, Called, Loaded, loadRefusal, entryRefusal}
 
 module _ (N : ℕ) (rule : Rule) (h : History) where
   pub rises : (c : Call) → rising 1 (refusals N rule h c) ≡ true
@@ -16,7 +20,7 @@ module _ (N : ℕ) (rule : Rule) (h : History) where
   rises (Enrol code class) = enrol-rises code class (enrolReads h code class)
   rises (Attach unit group) = attach-rises unit group (attachReads h unit group)
   rises (Detach unit) = detach-rises unit (isAttached h unit)
-  rises (Regular declarer group base quota) = regular-rises declarer group base quota (groupReads h group) (figureReads h group declarer)
+  rises (Regular declarer group base quota) = regular-rises (h .ratios) declarer group base quota (groupReads h group) (figureReads h group declarer)
   rises (Raise declarer group quota flag) = raise-rises declarer group quota flag (groupReads h group)
   rises (Withdraw declarer group) = withdraw-rises declarer group (groupReads h group)
   rises (OwnQuota group quota) = own-quota-rises group quota (groupReads h group)
@@ -36,3 +40,9 @@ module _ (N : ℕ) (rule : Rule) (h : History) where
   -- "1 left aside" (The history)
   pub never-unsound : (c : Call) → refusalOf N rule h c ≢ 1
   never-unsound c = never-one (refusals N rule h c) (rises c)
+
+  -- of an entry
+  pub never-unsound-entry : (e : Entry) → entryRefusal N rule h e ≢ 1
+  unfolding entryRefusal loadRefusal
+  never-unsound-entry (Called c) = never-unsound c
+  never-unsound-entry (Loaded f) = never-one (loadRules f (ltb 0 (length (h .groups)))) (load-rises f (ltb 0 (length (h .groups))))

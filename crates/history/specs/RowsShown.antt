@@ -4,7 +4,7 @@ use mathlib.Core.Path.{refl}
 use mathlib.Core.List.{[], _∷_, _++_}
 use lib.IntN.{pos, negsuc}
 use Rattle.rules.specs.Money.{milsOf}
-use Rattle.rules.specs.Quotas.{quotaDue, closedQuota}
+use Rattle.rules.specs.Quotas.{quotaBy, closedQuota}
 use Rattle.rules.specs.Orders.{isBuy, priceRule, worseFill, netOf, shanghai, stops}
 use Rattle.rules.specs.Lists.{enrolRules, attachRules, detachRules, regularRules, raiseRules, withdrawRules, ownQuotaRules, orderRules, fillRules, cancelRules}
 use Rattle.rules.specs.Keyed.{find, put, without}
@@ -119,7 +119,7 @@ pub record RowsShown : Type 0 where
   pub refused-money : Shows (morning ++ (order 20_001 1 500 10 ∷ order 20_001 1 0 10 ∷ fill 1 501 1 ∷ fill 1 500 11 ∷ fill 2 500 1 ∷ cancel 2 ∷ order 20_003 1 1 1 ∷ [])) 0 (row (at 8) (at 8) (pos 5_000) 5_000 0 0)
 
 pub rows-shown : RowsShown
-unfolding asked expected calls names enrols attaches declarers answers answer after next numberGiven refusals accept isTaken find put without when sumOver filledMoney openIn boughtIn soldIn moneyIn netOf shanghai stops milsOf isBuy priceRule worseFill quotaDue closedQuota enrolRules attachRules detachRules regularRules raiseRules withdrawRules ownQuotaRules orderRules fillRules cancelRules
+unfolding asked expected calls names enrols attaches declarers answers answer after next numberGiven refusals accept isTaken find put without when sumOver filledMoney openIn boughtIn soldIn moneyIn netOf shanghai stops milsOf isBuy priceRule worseFill quotaBy closedQuota enrolRules attachRules detachRules regularRules raiseRules withdrawRules ownQuotaRules orderRules fillRules cancelRules
 rows-shown = record {
   named = refl;
   fresh-group = refl;

@@ -1,4 +1,4 @@
--- Article 16's sum over a list of calls is open + bought − sold, for every part of the orders after every list: `article-16`, at the end.
+-- Article 16's sum over a list of calls and loads is open + bought − sold, for every part of the orders after every list: `article-16`, at the end.
 -- Each call moves money between the parts of the formula as it moves it between open, bought and sold. Assumes nothing.
 use Prim.Native.Nat.{ℕ, zero, suc, _+_, _*_, _-_, _≤_, _<_}
 use mathlib.Core.Path.{_≡_, refl, sym, ap, _∙_}
@@ -26,8 +26,9 @@ use Rattle.rules.specs.Refusals.{unlessRefused}
 use Rattle.rules.specs.Sums.{when, when-add, when-zero, sumOver, sum-over-append, sum-over-set}
 use Rattle.history.specs.Past.{Filled, Ordered, History, atOpening, noOrder, orderAt, filledMoney, openIn, boughtIn, soldIn, moneyIn, Part, belongs}
 use Rattle.history.specs.Answers.{groupOf, refusals, refusalOf, orderReads, placeReads}
-use Rattle.history.specs.Runs.{ordered, filled, cancelled, accept, next, after}
-use Rattle.history.specs.Article16.{Parts, nothing, counted, net16, parts}
+use Rattle.history.specs.Runs.{ordered, filled, cancelled, accept, next, after, Entry, Called, Loaded, withTable, loadRefusal, nextEntry, afterAll}
+use Rattle.rules.specs.Loads.{loaded}
+use Rattle.history.specs.Article16.{Parts, nothing, counted, net16, parts, entryParts, partsAll}
 
 pub sub-same : (a b k : ℕ) → subℕ (a + k) (b + k) ≡ subℕ a b
 sub-same a b k = go (ltb a b) refl
@@ -190,13 +191,27 @@ module _ (N : ℕ) (rule : Rule) (w : Part) where
   tally-after [] h s t = t
   tally-after (c ∷ cs) h s t = tally-after cs (next N rule h c) (unlessRefused (refusalOf N rule h c) (counted w h s c) s) (tally-next h s t c)
 
-  -- Article 16's sum is open + bought − sold, for every part of the orders after every list of calls
-  pub article-16 : (cs : List Call) → net16 (parts N rule w atOpening nothing cs) ≡ netOf (moneyIn (after N rule atOpening cs) w)
+  tally-entry : (h : History) (s : Parts) → Tally w (h .orders) s → (e : Entry) → Tally w ((nextEntry N rule h e) .orders) (entryParts N rule w h s e)
+  unfolding nextEntry entryParts
+  tally-entry h s t (Called c) = tally-next h s t c
+  tally-entry h s t (Loaded f) = go (loadRefusal N rule h f)
+    where
+      go : (r : ℕ) → Tally w ((unlessRefused r (withTable h (loaded f)) h) .orders) s
+      go zero = t
+      go (suc r) = t
+
+  tally-all : (es : List Entry) (h : History) (s : Parts) → Tally w (h .orders) s → Tally w ((afterAll N rule h es) .orders) (partsAll N rule w h s es)
+  unfolding afterAll partsAll
+  tally-all [] h s t = t
+  tally-all (e ∷ es) h s t = tally-all es (nextEntry N rule h e) (entryParts N rule w h s e) (tally-entry h s t e)
+
+  -- Article 16's sum is open + bought − sold, for every part of the orders after every list of calls and loads
+  pub article-16 : (es : List Entry) → net16 (partsAll N rule w atOpening nothing es) ≡ netOf (moneyIn (afterAll N rule atOpening es) w)
   unfolding netOf moneyIn
-  article-16 cs =
-      let t = tally-after cs atOpening nothing (tally-none w) in
-      let s : Parts = parts N rule w atOpening nothing cs in
-      let l : List Ordered = (after N rule atOpening cs) .orders in
+  article-16 es =
+      let t = tally-all es atOpening nothing (tally-none w) in
+      let s : Parts = partsAll N rule w atOpening nothing es in
+      let l : List Ordered = (afterAll N rule atOpening es) .orders in
       let k : ℕ = s .cancelled + s .improved in
       let a : s .submitted ≡ sumOver (openIn w) l + sumOver (boughtIn w) l + k = omega (arith, t .plus) in
       let b : s .sold + s .cancelled + s .improved ≡ sumOver (soldIn w) l + k = omega (arith, t .minus) in

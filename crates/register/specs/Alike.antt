@@ -1,4 +1,4 @@
--- A register is its groups and units, and words that stand for nothing: registers in range that read alike, with the same words that stand for
+-- A register is its groups, units and ratios, and words that stand for nothing: registers in range that read alike, with the same words that stand for
 -- nothing, are the same, word for word. Assumes nothing.
 use Prim.Native.Nat.{ℕ, zero, suc, _+_, _-_, _/_, _%_, _≤_, _<_}
 use mathlib.Core.Path.{_≡_, refl, ap, sym, _∙_}
@@ -10,12 +10,14 @@ use lib.Seq.{ext-getD}
 use Rattle.rules.specs.Money.{millions}
 use Rattle.rules.specs.declared.money.Millions.{Millions}
 use Rattle.rules.specs.declared.quotas.Quota.{Quota}
+use Rattle.rules.specs.declared.quotas.Ratio.{Ratio}
+use Rattle.rules.specs.declared.quotas.Ratios.{Ratios}
 use Rattle.words.specs.Words.{run-at}
 use Rattle.words.specs.Alike.{AlikeAt, alike-at}
 use Rattle.pairs.specs.Pairs.{pairsOf}
 use Rattle.figures.specs.Figures.{standingOf}
 use Rattle.figures.specs.Places.{pairs, length-pairs}
-use Rattle.register.specs.Layout.{registerLength, groupCount, unitCount, place, firstUnit, firstUnitGroup, atDeclarers, atQuotas, limitWord, holderWord, figureWord, figuresOf, groupOf, wordsOf, recordAt, groupAt, unitColumn, unitGroupColumn, unitsOf, firstFigure, firstScalar, recordWords, firstDeclarer}
+use Rattle.register.specs.Layout.{registerLength, usedHead, ratiosOf, groupCount, unitCount, place, firstUnit, firstUnitGroup, atDeclarers, atQuotas, limitWord, holderWord, figureWord, figuresOf, groupOf, wordsOf, recordAt, groupAt, unitColumn, unitGroupColumn, unitsOf, firstFigure, firstScalar, recordWords, firstDeclarer}
 use Rattle.register.specs.Check.{registerOk, recordOk}
 use Rattle.register.specs.Records.{part, record-word, length-record}
 use Rattle.register.specs.Views.{units-is, length-column, length-group-column, length-units}
@@ -30,9 +32,9 @@ pub record ReadAlike (g k : Group) : Type 0 where
   pub quota : g .quota ≡ k .quota
   pub figures : standingOf (g .figures) ≡ standingOf (k .figures)
 
--- the words that stand for nothing are the same: 14 of the header, those of groups not enrolled, of figures that do not stand, of units not attached
+-- the words that stand for nothing are the same: eight of the header, those of groups not enrolled, of figures that do not stand, of units not attached
 pub record UnusedAlike (vs ws : List ℕ) : Type 0 where
-  pub header : (p : ℕ) → 2 ≤ p → p < firstDeclarer → AlikeAt vs ws p
+  pub header : (p : ℕ) → usedHead ≤ p → p < firstDeclarer → AlikeAt vs ws p
   pub groups : (i k : ℕ) → groupCount ws ≤ i → i < 64 → k < recordWords → AlikeAt vs ws (place i k)
   pub declarers : (i j : ℕ) → i < groupCount ws → (groupAt ws i) .figures .standing ≤ j → j < 8 → AlikeAt vs ws (place i (atDeclarers + j))
   pub quotas : (i j : ℕ) → i < groupCount ws → (groupAt ws i) .figures .standing ≤ j → j < 8 → AlikeAt vs ws (place i (atQuotas + j))
@@ -143,7 +145,7 @@ module _ (r s : List ℕ) (n : length r ≡ recordWords) (m : length s ≡ recor
 -- ---- a register
 
 module _ (vs ws : List ℕ) (ok : registerOk vs ≡ true) (fine : registerOk ws ≡ true) (count : groupCount vs ≡ groupCount ws)
-    (read : (i : ℕ) → i < groupCount ws → ReadAlike (groupAt vs i) (groupAt ws i)) (attached : unitsOf vs ≡ unitsOf ws) (unused : UnusedAlike vs ws) where
+    (read : (i : ℕ) → i < groupCount ws → ReadAlike (groupAt vs i) (groupAt ws i)) (attached : unitsOf vs ≡ unitsOf ws) (ratios : ratiosOf vs ≡ ratiosOf ws) (unused : UnusedAlike vs ws) where
   x : Sound vs
   x = known vs ok
 
@@ -201,7 +203,13 @@ module _ (vs ws : List ℕ) (ok : registerOk vs ≡ true) (fine : registerOk ws 
   header-word : (p : ℕ) → p < firstDeclarer → AlikeAt vs ws p
   header-word zero h = count
   header-word (suc zero) h = unit-count
-  header-word (suc (suc p)) h = unused .header (suc (suc p)) (omega arith) (omega arith)
+  header-word (suc (suc zero)) h = ap (λ (t : Ratios). t .proprietary .numerator) ratios
+  header-word (suc (suc (suc zero))) h = ap (λ (t : Ratios). t .proprietary .denominator) ratios
+  header-word (suc (suc (suc (suc zero)))) h = ap (λ (t : Ratios). t .management .numerator) ratios
+  header-word (suc (suc (suc (suc (suc zero))))) h = ap (λ (t : Ratios). t .management .denominator) ratios
+  header-word (suc (suc (suc (suc (suc (suc zero)))))) h = ap (λ (t : Ratios). t .institution .numerator) ratios
+  header-word (suc (suc (suc (suc (suc (suc (suc zero))))))) h = ap (λ (t : Ratios). t .institution .denominator) ratios
+  header-word (suc (suc (suc (suc (suc (suc (suc (suc p)))))))) h = unused .header (suc (suc (suc (suc (suc (suc (suc (suc p)))))))) (omega arith) (omega arith)
 
   -- every word is one of these: header, declarers, figures, units, their groups, columns of scalars
   every-word : (p : ℕ) → p < registerLength → AlikeAt vs ws p

@@ -8,7 +8,7 @@ use native.Mathlib.Omega.{arith}
 use borrow.Author.Tests.{le-ltb}
 use lib.ListN.{length, replicate}
 use Rattle.rules.specs.Money.{mils, millions, milsOf}
-use Rattle.rules.specs.Quotas.{quotaDue, closedQuota}
+use Rattle.rules.specs.Quotas.{quotaBy, closedQuota}
 use Rattle.rules.specs.Orders.{isBuy, priceRule, worseFill, netOf, shanghai, stops}
 use Rattle.rules.specs.Lists.{enrolRules, attachRules, regularRules, ownQuotaRules, orderRules, fillRules, cancelRules}
 use Rattle.rules.specs.Keyed.{find, put, without}
@@ -99,7 +99,7 @@ daysRoom = record { given = true; left = record { below = false; size = mils 1_2
 
 -- by the history
 day-left : (length ((after 2_048 shanghai atOpening input) .groups) ≡ 1) × (roomOf (historyRow (after 2_048 shanghai atOpening input) 0) ≡ daysRoom)
-unfolding answer after next numberGiven refusals accept isTaken find put without when sumOver filledMoney openIn boughtIn soldIn moneyIn netOf shanghai stops milsOf isBuy priceRule worseFill quotaDue closedQuota enrolRules attachRules regularRules ownQuotaRules orderRules fillRules cancelRules historyRow signedNet roomOf roomUnder difference
+unfolding answer after next numberGiven refusals accept isTaken find put without when sumOver filledMoney openIn boughtIn soldIn moneyIn netOf shanghai stops milsOf isBuy priceRule worseFill quotaBy closedQuota enrolRules attachRules regularRules ownQuotaRules orderRules fillRules cancelRules historyRow signedNet roomOf roomUnder difference
 day-left = (refl, refl)
 
 module _ (lent : Memory) (o : openRefusal lent ≡ 0) (n : placesLent lent ≡ 2_048) where
