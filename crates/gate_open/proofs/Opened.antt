@@ -13,7 +13,9 @@ use Rattle.rules.specs.Refusals.{UNSOUND, unlessRefused}
 use Rattle.words.specs.Words.{splice, stored}
 use Rattle.claim.specs.Opening.{placesLent, openRefusal, freshRegister, freshBook, openRegister, openBook}
 use Rattle.book.specs.Layout.{bookLength, clearedWords, placeWords}
-use Rattle.register.specs.Layout.{registerLength}
+use Rattle.rules.specs.Quotas.{oldRatios}
+use Rattle.rules.specs.declared.quotas.Ratios.{Ratios}
+use Rattle.register.specs.Layout.{registerLength, putRatios}
 use Rattle.claim.specs.Step.{Memory}
 
 stored-whole : (ws xs : List ℕ) → length ws ≡ length xs → stored ws 0 xs ≡ xs
@@ -23,6 +25,10 @@ stored-whole ws xs e =
     let k : length ws ≤ 0 + length xs = omega arith in
     let d : drop (0 + length xs) ws ≡ [] = drop-of-length-le ws k in
     rw (le-leb (0 + length xs) (length ws) l) (ap (λ (z : List ℕ). xs ++ z) d ∙ append-nil xs)
+
+-- what the opening stores in the register before the ratios
+abbrev zeros : List ℕ
+zeros = replicate registerLength 0
 
 module _ (lent : Memory) where
   -- a proper opening: every slice has its length
@@ -48,12 +54,13 @@ module _ (lent : Memory) where
       go zero x = absurd (n (e ∙ x))
       go (suc q) x = (e, rw x (refl, refl))
 
-  pub open-done : (r : ℕ) (xs ys : List ℕ) → r ≡ openRefusal lent → r ≡ 0 → xs ≡ stored (lent .register) 0 freshRegister → ys ≡ stored (lent .book) 0 (freshBook (placesLent lent))
+  pub open-done : (r : ℕ) (xs ys : List ℕ) (t : Ratios) → r ≡ openRefusal lent → r ≡ 0 → t ≡ oldRatios → xs ≡ putRatios (stored (lent .register) 0 zeros) t → ys ≡ stored (lent .book) 0 (freshBook (placesLent lent))
       → (0 ≡ openRefusal lent) × ((xs ≡ openRegister lent) × (ys ≡ openBook lent))
   unfolding openRegister openBook
-  open-done r xs ys e z x y =
+  open-done r xs ys t e z o x y =
       let q : openRefusal lent ≡ 0 = sym e ∙ z in
       let k = open-known q in
-      let m : length (lent .register) ≡ length freshRegister = k .0 ∙ sym (length-replicate {A = ℕ} registerLength 0) in
+      let m : length (lent .register) ≡ length zeros = k .0 ∙ sym (length-replicate {A = ℕ} registerLength 0) in
+      let f : putRatios (stored (lent .register) 0 zeros) t ≡ freshRegister = ap (putRatios (stored (lent .register) 0 zeros)) o ∙ ap (λ (z : List ℕ). putRatios z oldRatios) (stored-whole (lent .register) zeros m) in
       let n : length (lent .book) ≡ length (freshBook (placesLent lent)) = k .1 ∙ sym (ap suc (length-replicate {A = ℕ} clearedWords 0)) in
-      rw q (refl, (x ∙ stored-whole (lent .register) freshRegister m, y ∙ stored-whole (lent .book) (freshBook (placesLent lent)) n))
+      rw q (refl, (x ∙ f, y ∙ stored-whole (lent .book) (freshBook (placesLent lent)) n))

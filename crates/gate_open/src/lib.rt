@@ -5,6 +5,8 @@ ghost use Rattle.claim.specs.Step.{memory};
 use book::layout::BOOK;
 use book::layout::PLACE_WORDS;
 use register::layout::REGISTER;
+use register_ratios::put_ratios;
+use rules::quotas::Ratios;
 use rules::refusals::UNSOUND;
 use words::store;
 use words::store32;
@@ -20,7 +22,7 @@ pub fn refusal_of_opening(register: &[u32], book: &[u64], places: &[u64]) -> u64
     if ok { 0 } else { UNSOUND }
 }
 
-// A fresh gate: nothing enrolled or attached, no order, N as many as the places lent.
+// A fresh gate: nothing enrolled or attached, no order, the old ratios, N as many as the places lent.
 pub fn open(register: &mut [u32], book: &mut [u64], places: &[u64]) -> u64
     ensures { λ r. ⌜ (r ≡ openRefusal (memory (now (register .entry)) (now (book .entry)) (now (places .entry))))
         × ((now (register .exit) ≡ openRegister (memory (now (register .entry)) (now (book .entry)) (now (places .entry))))
@@ -35,5 +37,6 @@ pub fn open(register: &mut [u32], book: &mut [u64], places: &[u64]) -> u64
     fresh[0] = n as u64;
     store(book, 0, &fresh);
     store32(register, 0, &[0u32; REGISTER]);
+    put_ratios(register, Ratios::old());
     0
 }

@@ -7,6 +7,7 @@ use figures_declared::stands;
 use register_check::register_ok;
 use register_groups::group_at;
 use register_groups::group_count;
+use register_ratios::ratios_of;
 use rules::declaring::FigureReads;
 use rules::declaring::GroupReads;
 use rules::money::Millions;
@@ -53,9 +54,10 @@ pub fn refusal_of_regular(
 ) -> u64
     ensures { λ r. ⌜ r ≡ regularRefusal (now (register .entry)) declarer group base quota ⌝ }
 {
+    let ratios = ratios_of(register);
     let reads = reads_of_group(register, group);
     let figures = reads_of_figures(register, group, declarer);
-    let r = regular_refusal(declarer, group, base, quota, reads, figures);
+    let r = regular_refusal(ratios, declarer, group, base, quota, reads, figures);
     first(!register_ok(register), UNSOUND, r)
 }
 

@@ -1,10 +1,10 @@
-// The self check in columns: every figure of the enrolled groups and of the attached units is in its range, and so are the counts. Three loops without early exit:
-// the seven scalars of a group, a declarer with its figure, a unit with its group. Each loop reads neighbours in memory, so the compiler takes four at a time.
+// The self check in columns: every figure of the enrolled groups and of the attached units is in its range, and so are the counts and the ratios. Three loops without early exit
+// beside the ratios': the seven scalars of a group, a declarer with its figure, a unit with its group. Each loop reads neighbours in memory, so the compiler takes four at a time.
 ghost use mathlib.Core.Path.{_≡_};
 ghost use Prim.Native.Nat.{_≤_, _<_};
 ghost use lib.ListN.{length};
 ghost use Rattle.words.specs.Each.{allBelow};
-ghost use Rattle.register.specs.Check.{unitOk, registerOk};
+ghost use Rattle.register.specs.Check.{unitOk, ratioOk, registerOk};
 ghost use Rattle.register.specs.Columns.{scalarsOk, declaredOk};
 ghost use Rattle.register.specs.Layout.{registerLength};
 use register::layout::CLASS_COLUMN;
@@ -16,6 +16,8 @@ use register::layout::FIRST_UNIT;
 use register::layout::FIRST_UNIT_GROUP;
 use register::layout::GROUPS;
 use register::layout::HOLDER_COLUMN;
+use register::layout::RATIO_WORDS;
+use register::layout::RATIOS;
 use register::layout::REGISTER;
 use register::layout::SCALARS;
 use register::layout::UNITS;
@@ -89,6 +91,20 @@ fn units_ok(register: &[u32], n: usize) -> bool
     ok
 }
 
+// The words of the ratios: "both 1 to 100" (2026-01).
+fn ratios_ok(register: &[u32]) -> bool
+    requires { ⌜ length (now register) ≡ registerLength ⌝ }
+    ensures { λ r. ⌜ r ≡ allBelow 6 (ratioOk (now (register .entry))) ⌝ }
+{
+    let mut ok = true;
+    let mut j: usize = 0;
+    while j < RATIO_WORDS {
+        ok = ok & ((1 <= register[RATIOS + j]) & (register[RATIOS + j] <= 100));
+        j += 1;
+    }
+    ok
+}
+
 // Every figure of the register is in its range.
 pub fn register_ok(register: &[u32]) -> bool
     ensures { λ r. ⌜ r ≡ registerOk (now (register .entry)) ⌝ }
@@ -105,6 +121,7 @@ pub fn register_ok(register: &[u32]) -> bool
         return false;
     }
     let n = groups as usize;
-    (all_scalars_ok(register, n) & declared_ok(register, 8 * n))
-        & units_ok(register, units as usize)
+    ratios_ok(register)
+        & ((all_scalars_ok(register, n) & declared_ok(register, 8 * n))
+            & units_ok(register, units as usize))
 }

@@ -15,6 +15,7 @@ use rules::limits::TOP_QUOTA;
 use rules::money::Millions;
 use rules::quotas::Emergency;
 use rules::quotas::Limit;
+use rules::quotas::Ratios;
 use rules::refusals::ABOVE_MAXIMUM;
 use rules::refusals::ALREADY_THERE;
 use rules::refusals::EIGHT_STAND;
@@ -32,7 +33,7 @@ use rules::refusals::WRONG_FLAG;
 use rules::refusals::first;
 use rules_quotas::flag_due;
 use rules_quotas::is_none;
-use rules_quotas::quota_due;
+use rules_quotas::quota_by;
 
 // Call 1, enrol group.
 pub fn enrol_refusal(code: u64, class: u64, reads: EnrolReads) -> u64
@@ -77,8 +78,9 @@ fn is_foreign(reads: GroupReads, declarer: u64) -> bool
     (reads.class == PROPRIETARY) & !(declarer == reads.code)
 }
 
-// Call 4, regular declaration.
+// Call 4, regular declaration: "refusal 8 .. by the table loaded last" (2026-01).
 pub fn regular_refusal(
+    ratios: Ratios,
     declarer: u64,
     group: u64,
     base: Millions,
@@ -86,9 +88,9 @@ pub fn regular_refusal(
     reads: GroupReads,
     figures: FigureReads,
 ) -> u64
-    ensures { λ r. ⌜ r ≡ refusal (regularRules declarer group base quota reads figures) ⌝ }
+    ensures { λ r. ⌜ r ≡ refusal (regularRules ratios declarer group base quota reads figures) ⌝ }
 {
-    let due = quota_due(reads.class, base);
+    let due = quota_by(ratios, reads.class, base);
     let r = first(!figures.standing & figures.full, EIGHT_STAND, 0);
     let r = first((base.0 == 0) & !figures.standing, NOTHING_TO_WITHDRAW, r);
     let r = first(!(quota.0 == due.0), NOT_FROM_BASE, r);

@@ -1,13 +1,17 @@
 // "Quotas": what follows from a base, the own quota in force, and the close's rule.
 ghost use mathlib.Core.Path.{_≡_};
-ghost use Rattle.rules.specs.Quotas.{quotaDue, inForce, ownQuota, regularMaximum, maximumAtClose, emergencyAtClose, ownAtClose, closedQuota, flagDue, isNone};
+ghost use Rattle.rules.specs.Quotas.{ratioOf, quotaAt, quotaBy, inForce, ownQuota, regularMaximum, maximumAtClose, emergencyAtClose, ownAtClose, closedQuota, flagDue, isNone};
+use rules::limits::MANAGEMENT;
 use rules::limits::PROPRIETARY;
 use rules::limits::TOP_QUOTA;
+use rules::limits::TOP_RATIO;
 use rules::limits::smaller;
 use rules::money::Millions;
 use rules::quotas::Emergency;
 use rules::quotas::Limit;
 use rules::quotas::Quota;
+use rules::quotas::Ratio;
+use rules::quotas::Ratios;
 
 // A maximum of none, or no own quota in force.
 pub fn is_none(limit: Limit) -> bool
@@ -19,15 +23,42 @@ pub fn is_none(limit: Limit) -> bool
     }
 }
 
-// The quota that a base gives its class. A base above its range counts as the top of the range.
-pub fn quota_due(class: u64, base: Millions) -> Millions
-    ensures { λ r. ⌜ r ≡ quotaDue class base ⌝ }
+// The ratio of a class, by a table (2026-01).
+fn ratio_of(ratios: Ratios, class: u64) -> Ratio
+    ensures { λ r. ⌜ r ≡ ratioOf ratios class ⌝ }
+{
+    if class == PROPRIETARY {
+        let proprietary = ratios.proprietary;
+        return proprietary;
+    }
+    if class == MANAGEMENT {
+        let management = ratios.management;
+        return management;
+    }
+    let institution = ratios.institution;
+    institution
+}
+
+// base × numerator ÷ denominator, rounded half up. A number above its range counts as the top of the range: no product wraps, whatever the words of a
+// register.
+fn quota_at(ratio: Ratio, base: Millions) -> Millions
+    ensures { λ r. ⌜ r ≡ quotaAt ratio base ⌝ }
 {
     let counted = smaller(base.0, TOP_QUOTA);
-    if class == PROPRIETARY {
-        return Millions((counted * 5 + 1) / 2);
+    let n = smaller(ratio.numerator, TOP_RATIO);
+    let d = smaller(ratio.denominator, TOP_RATIO);
+    if d == 0 {
+        return Millions(0);
     }
-    Millions(counted)
+    Millions((2 * (counted * n) + d) / (2 * d))
+}
+
+// The quota that a base gives its class, by a table of ratios (2026-01).
+pub fn quota_by(ratios: Ratios, class: u64, base: Millions) -> Millions
+    ensures { λ r. ⌜ r ≡ quotaBy ratios class base ⌝ }
+{
+    let ratio = ratio_of(ratios, class);
+    quota_at(ratio, base)
 }
 
 // "flag: 1 above the threshold, else 0" (The eleven calls).

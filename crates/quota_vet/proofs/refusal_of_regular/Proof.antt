@@ -4,6 +4,9 @@ use borrow.Author.Needs.{needs}
 use Rattle.quota_vet.proofs.refusal_of_regular.Statement.{statement}
 use Rattle.quota_vet.proofs.refusal_of_regular.Tie as tie
 
+ratios-of-requires : tie.Need-ratios-of-requires
+ratios-of-requires c κs = search needs
+
 reads-of-group-requires : tie.Need-reads-of-group-requires
 reads-of-group-requires c κs = search needs
 
@@ -21,12 +24,13 @@ first-requires c κs = search needs
 
 returns : tie.Need-returns
 unfolding regularRefusal
-returns c = rw (c .first .ensures, c .before .register-ok .ensures, c .before .before .regular-refusal .ensures, c .before .before .before .reads-of-figures .ensures, c .before .before .before .before .reads-of-group .ensures)
+returns c = rw (c .first .ensures, c .before .register-ok .ensures, c .before .before .regular-refusal .ensures, c .before .before .before .reads-of-figures .ensures, c .before .before .before .before .reads-of-group .ensures, c .before .before .before .before .before .ratios-of .ensures)
 
 pub refusal-of-regular-spec : {M : Type 1} → statement M
 refusal-of-regular-spec =
     tie.close
     (tie.spec
+    ratios-of-requires
     reads-of-group-requires
     reads-of-figures-requires
     regular-refusal-requires

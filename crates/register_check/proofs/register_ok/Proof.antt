@@ -28,6 +28,9 @@ returns-3 c = rw (eq-eqb _ _ (c .before .before .before .before .if1 .left), le-
 cast-n : tie.Need-cast-n
 cast-n c = search needs
 
+ratios-ok-requires : tie.Need-ratios-ok-requires
+ratios-ok-requires c κs = search needs
+
 all-scalars-ok-requires : tie.Need-all-scalars-ok-requires
 all-scalars-ok-requires c κs = search needs
 
@@ -50,16 +53,18 @@ returns-4 c =
     let c2 = c1 .before in
     let c3 = c2 .before in
     let c4 = c3 .before in
-    let c7 = c4 .before .before .before in
-    let a = c7 .before .before .args in
+    let c5 = c4 .before in
+    let c8 = c5 .before .before .before in
+    let a = c8 .before .before .args in
     rw (
       c .units-ok .ensures,
       c1 .declared-ok .ensures,
       c2 .all-scalars-ok .ensures,
-      columns (now (a .register)) (c7 .if1 .left) _ (c4 .if2 .left),
-      eq-eqb _ _ (c7 .if1 .left),
-      le-leb _ _ (c4 .if2 .left),
-      le-leb _ _ (c3 .if3 .left),
+      c3 .ratios-ok .ensures,
+      columns (now (a .register)) (c8 .if1 .left) _ (c5 .if2 .left),
+      eq-eqb _ _ (c8 .if1 .left),
+      le-leb _ _ (c5 .if2 .left),
+      le-leb _ _ (c4 .if3 .left),
     )
 
 pub register-ok-spec : {M : Type 1} → statement M
@@ -72,6 +77,7 @@ register-ok-spec =
     returns-2
     returns-3
     cast-n
+    ratios-ok-requires
     all-scalars-ok-requires
     mul-declared-ok
     declared-ok-requires

@@ -4,8 +4,8 @@ use borrow.Author.Needs.{needs}
 use Rattle.rules_declaring.proofs.declaring.regular_refusal.Statement.{statement}
 use Rattle.rules_declaring.proofs.declaring.regular_refusal.Tie as tie
 
-quota-due-requires : tie.Need-quota-due-requires
-quota-due-requires c κs = search needs
+quota-by-requires : tie.Need-quota-by-requires
+quota-by-requires c κs = search needs
 
 first-requires : tie.Need-first-requires
 first-requires c κs = search needs
@@ -46,14 +46,14 @@ returns c =
       c7 .first3 .ensures,
       c10 .first2 .ensures,
       c13 .first .ensures,
-      c16 .quota-due .ensures,
+      c16 .quota-by .ensures,
     )
 
 pub regular-refusal-spec : {M : Type 1} → statement M
 regular-refusal-spec =
     tie.close
     (tie.spec
-    quota-due-requires
+    quota-by-requires
     first-requires
     first-requires-2
     first-requires-3
