@@ -3,7 +3,7 @@
 ghost use mathlib.Core.Path.{_≡_};
 ghost use Rattle.claim.specs.Step.{bookSound, memory, onRegister, enrolling, closingSound};
 ghost use Rattle.rules.specs.Refusals.{answered};
-ghost use Rattle.quota.specs.Calls.{attachRefusal, attachAfter, detachRefusal, detachAfter, regularRefusal, regularAfter, raiseRefusal, raiseAfter, withdrawRefusal, withdrawAfter, ownQuotaRefusal, ownQuotaAfter};
+ghost use Rattle.quota.specs.Calls.{attachRefusal, attachAfter, detachRefusal, detachAfter, regularRefusal, regularAfter, raiseRefusal, raiseAfter, withdrawRefusal, withdrawAfter, ownQuotaRefusal, ownQuotaAfter, loadRefusal, loadAfter};
 use book::check::book_ok;
 use book_money::clear_money;
 use orders_booking::close_orders;
@@ -12,6 +12,7 @@ use quota_close::close_quotas;
 use rules::calls::Answer;
 use rules::calls::accepted_as;
 use rules::calls::refused_by;
+use rules::loads::RatioFile;
 use rules::money::Millions;
 use rules::refusals::UNSOUND;
 
@@ -143,6 +144,17 @@ pub fn guarded_own_quota(
         return refused_by(UNSOUND);
     }
     quota_declare::own_quota(register, group, quota)
+}
+
+// A load of ratios, as the file reads (2026-01).
+pub fn guarded_load(register: &mut [u32], book: &[u64], places: &[u64], file: RatioFile) -> Answer
+    ensures { λ r. ⌜ (r ≡ (onRegister (memory (now (register .entry)) (now (book .entry)) (now (places .entry))) (answered (loadRefusal (now (register .entry)) file)) (loadAfter (now (register .entry)) file)) .answer)
+        × ((memory (now (register .exit)) (now (book .entry)) (now (places .entry))) ≡ (onRegister (memory (now (register .entry)) (now (book .entry)) (now (places .entry))) (answered (loadRefusal (now (register .entry)) file)) (loadAfter (now (register .entry)) file)) .memory) ⌝ }
+{
+    if !book_sound(register, book, places) {
+        return refused_by(UNSOUND);
+    }
+    quota_load::load(register, file)
 }
 
 // Call 11. Close: quotas, then orders; no place is written.

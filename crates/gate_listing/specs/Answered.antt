@@ -26,7 +26,7 @@ use Rattle.rows.specs.Row.{signedNet}
 use Rattle.listing.specs.Text.{rowText, listingText}
 use Rattle.gate_listing.specs.Listed.{listRefusal, listed}
 use Rattle.gate_listing.specs.Claim.{historyRow, historyRowsOn, historyRows}
-use Rattle.gate_listing.specs.Claimed.{listing-demand}
+use Rattle.gate_listing.specs.Claimed.{listed-calls}
 use Rattle.claim.specs.Step.{Memory}
 
 -- n groups of class 4
@@ -71,9 +71,9 @@ module _ (lent : Memory) where
     pub answered : Answered
     unfolding enrols after next refusals accept isTaken find put without sumOver openIn boughtIn soldIn moneyIn netOf quotaBy closedQuota enrolRules regularRules ownQuotaRules byteAt marked number digits signedNet rowText listingText historyRow historyRowsOn historyRows
     answered = record {
-      none = (listing-demand lent o [] .refusal 0, listing-demand lent o [] .refusal 1);
-      one = (listing-demand lent o (Enrol 1 1 ∷ []) .refusal 0, listing-demand lent o (Enrol 1 1 ∷ []) .refusal 107, listing-demand lent o (Enrol 1 1 ∷ []) .refusal 108, listing-demand lent o (Enrol 1 1 ∷ []) .refusal 109);
-      two = (listing-demand lent o (Enrol 1 1 ∷ Enrol 1 1 ∷ Enrol 1 3 ∷ []) .refusal 108, listing-demand lent o (Enrol 1 1 ∷ Enrol 1 1 ∷ Enrol 1 3 ∷ []) .refusal 215, listing-demand lent o (Enrol 1 1 ∷ Enrol 1 1 ∷ Enrol 1 3 ∷ []) .refusal 216, listing-demand lent o (Enrol 1 1 ∷ Enrol 1 1 ∷ Enrol 1 3 ∷ []) .refusal 217);
-      all = (listing-demand lent o (enrols 64) .refusal 6_911, listing-demand lent o (enrols 64) .refusal 6_912);
-      tail = listing-demand lent o morning .text (replicate 111 7) (omega arith);
+      none = (listed-calls lent o [] .refusal 0, listed-calls lent o [] .refusal 1);
+      one = (listed-calls lent o (Enrol 1 1 ∷ []) .refusal 0, listed-calls lent o (Enrol 1 1 ∷ []) .refusal 107, listed-calls lent o (Enrol 1 1 ∷ []) .refusal 108, listed-calls lent o (Enrol 1 1 ∷ []) .refusal 109);
+      two = (listed-calls lent o (Enrol 1 1 ∷ Enrol 1 1 ∷ Enrol 1 3 ∷ []) .refusal 108, listed-calls lent o (Enrol 1 1 ∷ Enrol 1 1 ∷ Enrol 1 3 ∷ []) .refusal 215, listed-calls lent o (Enrol 1 1 ∷ Enrol 1 1 ∷ Enrol 1 3 ∷ []) .refusal 216, listed-calls lent o (Enrol 1 1 ∷ Enrol 1 1 ∷ Enrol 1 3 ∷ []) .refusal 217);
+      all = (listed-calls lent o (enrols 64) .refusal 6_911, listed-calls lent o (enrols 64) .refusal 6_912);
+      tail = listed-calls lent o morning .text (replicate 111 7) (omega arith);
     }

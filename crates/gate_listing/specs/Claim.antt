@@ -1,4 +1,4 @@
--- The listing after every list of calls from a fresh gate: its rows are the history's, they keep their rules, and 1 never occurs.
+-- The listing after every list of calls and loads from a fresh gate: its rows are the history's, they keep their rules, and 1 never occurs.
 -- Claimed.antt proves it: `listing-demand`.
 use Prim.Native.Nat.{ℕ, zero, suc, _*_, _≤_}
 use mathlib.Core.Path.{_≡_}
@@ -11,13 +11,12 @@ use Rattle.rules.specs.Tests.{pick}
 use Rattle.rules.specs.Quotas.{inForce}
 use Rattle.rules.specs.Orders.{shanghai}
 use Rattle.rules.specs.Refusals.{SHORT-BUFFER}
-use Rattle.rules.specs.declared.calls.Call.{Call}
 use Rattle.history.specs.Past.{History, atOpening, moneyOf}
 use Rattle.history.specs.Past as past
-use Rattle.history.specs.Runs.{after}
+use Rattle.history.specs.Runs.{Entry, afterAll}
 use Rattle.claim.specs.Step.{Memory}
 use Rattle.claim.specs.Opening.{placesLent, openRefusal}
-use Rattle.claim.specs.Demand.{run, opened}
+use Rattle.claim.specs.Demand.{runAll, opened}
 use Rattle.rows.specs.Row.{signedNet}
 use Rattle.rows.specs.declared.Row.{Row}
 use Rattle.listing.specs.Text.{listingText, listingKept}
@@ -56,4 +55,4 @@ pub record ListedAs (h : History) (m : Memory) : Type 0 where
 
 -- the claim
 abbrev pub ListingDemand : Type 0
-ListingDemand = (lent : Memory) → openRefusal lent ≡ 0 → (cs : List Call) → ListedAs (after (placesLent lent) shanghai atOpening cs) (run shanghai (opened lent) cs)
+ListingDemand = (lent : Memory) → openRefusal lent ≡ 0 → (es : List Entry) → ListedAs (afterAll (placesLent lent) shanghai atOpening es) (runAll shanghai (opened lent) es)

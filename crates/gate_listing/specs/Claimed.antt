@@ -8,7 +8,7 @@ use borrow.Author.Tests.{le-leb, le-ltb, ne-eqb, eqb-true}
 use lib.Dec.{eqb, leb, ltb}
 use lib.ListN.{length}
 use lib.Seq.{paste}
-use Rattle.rules.specs.Tests.{pick, both, within}
+use Rattle.rules.specs.Tests.{pick, both}
 use Rattle.rules.specs.Limits.{isCode, isClass, brokerage, topQuota}
 use Rattle.rules.specs.Quotas.{ownUnder, inForce, isNone}
 use Rattle.rules.specs.Orders.{shanghai}
@@ -20,12 +20,12 @@ use Rattle.rules.specs.declared.kinds.Money.{Money}
 use Rattle.rules.specs.declared.calls.Call.{Call}
 use Rattle.history.specs.Past.{History, atOpening, moneyOf}
 use Rattle.history.specs.Past as past
-use Rattle.history.specs.Runs.{after}
+use Rattle.history.specs.Runs.{after, afterAll}
 use Rattle.register.specs.Layout.{groupCount, groupAt}
 use Rattle.register.specs.Records.{LimitFits}
 use Rattle.register.specs.Sound.{InRange, group-sound, register-known}
 use Rattle.quota.specs.Asks.{isSound, groupsEnrolled, ownInForce}
-use Rattle.quota.specs.Rows.{Proper, OwnWithin, MaximumLow, distinct-groups}
+use Rattle.quota.specs.Rows.{Proper, OwnWithin, distinct-groups}
 use Rattle.book.specs.Layout.{moneyAt}
 use Rattle.book.specs.Check.{bookOk}
 use Rattle.book.specs.Known.{book-known}
@@ -33,10 +33,10 @@ use Rattle.orders.specs.Booking.{moneyFits}
 use Rattle.orders.specs.Host.{hostOk}
 use Rattle.claim.specs.Step.{Memory}
 use Rattle.claim.specs.Opening.{placesLent, openRefusal}
-use Rattle.claim.specs.Demand.{run, opened, RowIs}
+use Rattle.claim.specs.Demand.{run, runAll, opened, RowIs}
 use Rattle.claim.specs.QuotaSim.{group-counts}
 use Rattle.claim.specs.OrderSums.{money-fits}
-use Rattle.claim.specs.Theorem.{Sim, run-sim, opened-sim, row-is}
+use Rattle.claim.specs.Theorem.{Sim, run-sim, all-sim, opened-sim, row-is}
 use Rattle.rows.specs.Row.{signedNet, classKept, atMost, limitsKept, rowObeys, rowKept, madeRow, shownRow, rowAt, shown-kept}
 use Rattle.rows.specs.declared.Row.{Row}
 use Rattle.rows.specs.declared.RowRead.{RowRead}
@@ -45,10 +45,10 @@ use Rattle.gate_listing.specs.Listed.{rowsOn, gateRows, listRefusal, lis
 use Rattle.gate_listing.specs.Claim.{historyRow, historyRowsOn, historyRows, ListedAs, ListingDemand}
 
 -- maximum and own quota of a group as calls leave it
-limits-kept : (m o : Limit) → LimitFits m → MaximumLow m → OwnWithin m o → limitsKept m (ownUnder m o) ≡ true
-limits-kept Nothing o f l w = refl
-limits-kept (At maximum) Nothing f l w = rw (le-leb 1 (maximum .0) l, le-leb (maximum .0) topQuota f, le-leb (maximum .0) (maximum .0) (omega arith))
-limits-kept (At maximum) (At own) f l w = rw (le-leb 1 (maximum .0) l, le-leb (maximum .0) topQuota f, le-leb (own .0) (maximum .0) w)
+limits-kept : (m o : Limit) → LimitFits m → OwnWithin m o → limitsKept m (ownUnder m o) ≡ true
+limits-kept Nothing o f w = refl
+limits-kept (At maximum) Nothing f w = rw (le-leb (maximum .0) topQuota f, le-leb (maximum .0) (maximum .0) (omega arith))
+limits-kept (At maximum) (At own) f w = rw (le-leb (maximum .0) topQuota f, le-leb (own .0) (maximum .0) w)
 
 -- a history has a row for each group
 pub history-length : (h : History) (i n : ℕ) → length (historyRowsOn h i n) ≡ n
@@ -74,7 +74,7 @@ module _ (N : ℕ) (h : History) (m : Memory) (s : Sim N h m) where
       let p = s .quota .proper g l in
       let fits : moneyFits (moneyAt (m .book) g) ≡ true = ap moneyFits (s .order .money g) ∙ money-fits (length (h .groups)) h (s .order .known) orders-few (past.inGroup g) in
       let kept : limitsKept ((groupAt (m .register) g) .quota .maximum) (inForce ((groupAt (m .register) g) .quota)) ≡ true =
-      limits-kept ((groupAt (m .register) g) .quota .maximum) ((groupAt (m .register) g) .quota .own) (r .maximum) (p .maximum-low) (p .own-within) in
+      limits-kept ((groupAt (m .register) g) .quota .maximum) ((groupAt (m .register) g) .quota .own) (r .maximum) (p .own-within) in
       rw (
         le-leb ((groupAt (m .register) g) .code) 99_999 (r .code),
         le-leb 1 ((groupAt (m .register) g) .class) (r .class-low),
@@ -173,4 +173,10 @@ module _ (N : ℕ) (h : History) (m : Memory) (s : Sim N h m) where
       written buffer l = listed-text buffer (refused-short (length buffer) ∙ rw (le-ltb (length buffer) (rowBytes * length (h .groups)) l) refl)
 
 pub listing-demand : ListingDemand
-listing-demand lent o cs = listed-as (placesLent lent) (after (placesLent lent) shanghai atOpening cs) (run shanghai (opened lent) cs) (run-sim (placesLent lent) shanghai cs atOpening (opened lent) (opened-sim lent o))
+listing-demand lent o es =
+    listed-as (placesLent lent) (afterAll (placesLent lent) shanghai atOpening es) (runAll shanghai (opened lent) es) (all-sim (placesLent lent) shanghai es atOpening (opened lent) (opened-sim lent o))
+
+-- of calls alone
+pub listed-calls : (lent : Memory) → openRefusal lent ≡ 0 → (cs : List Call) → ListedAs (after (placesLent lent) shanghai atOpening cs) (run shanghai (opened lent) cs)
+listed-calls lent o cs =
+    listed-as (placesLent lent) (after (placesLent lent) shanghai atOpening cs) (run shanghai (opened lent) cs) (run-sim (placesLent lent) shanghai cs atOpening (opened lent) (opened-sim lent o))

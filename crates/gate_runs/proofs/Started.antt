@@ -7,7 +7,7 @@ use Rattle.rules.specs.Orders.{shanghai}
 use Rattle.rules.specs.Refusals.{unlessRefused}
 use Rattle.rules.specs.Laws.{where-refused, where-accepted}
 use Rattle.history.specs.Past.{atOpening}
-use Rattle.history.specs.Runs.{answers}
+use Rattle.history.specs.Runs.{answers, calls}
 use Rattle.claim.specs.Step.{Memory, memory}
 use Rattle.claim.specs.Opening.{placesLent, openRefusal, freshRegister, freshBook, openRegister, openBook}
 use Rattle.claim.specs.Demand.{run, opened}
@@ -61,5 +61,5 @@ module _ (lent : Memory) (ws out : List ℕ) where
           answers-are =
               eo ∙ ap (λ (x : Memory). runAnswers x ws out) f ∙ run-answers-as-history lent ws out o k
               ∙ sym (where-accepted (answerWords (answers (placesLent lent) shanghai atOpening (callsOf ws))) out (startRefusal lent ws out) st);
-          demanded = λ t. demand lent o (callsOf ws);
+          demanded = λ t. demand lent o (calls (callsOf ws));
         }

@@ -6,7 +6,7 @@ use mathlib.Core.List.{List}
 use Rattle.rules.specs.Orders.{shanghai}
 use Rattle.rules.specs.Refusals.{unlessRefused}
 use Rattle.history.specs.Past.{atOpening}
-use Rattle.history.specs.Runs.{answers}
+use Rattle.history.specs.Runs.{answers, calls}
 use Rattle.claim.specs.Step.{Memory, memory}
 use Rattle.claim.specs.Opening.{placesLent, openRefusal}
 use Rattle.claim.specs.Demand.{run, opened, Demand}
@@ -22,4 +22,4 @@ pub record FromOpening (lent : Memory) (ws out : List ℕ) (r : ℕ) (m : Memory
   pub memory-is : m ≡ unlessRefused (startRefusal lent ws out) (run shanghai (opened lent) (callsOf ws)) lent
   pub answers-are : room ≡ unlessRefused (startRefusal lent ws out) (answerWords (answers (placesLent lent) shanghai atOpening (callsOf ws))) out
   -- the third demand, of this list from this opening
-  pub demanded : r ≡ 0 → Demand (placesLent lent) (opened lent) (callsOf ws)
+  pub demanded : r ≡ 0 → Demand (placesLent lent) (opened lent) (calls (callsOf ws))

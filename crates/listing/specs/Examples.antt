@@ -76,11 +76,11 @@ pub record Examples : Type 0 where
   -- a class that is not controlled; a code with a leading zero
   pub brokerage : Refused "    1 2       8       5           3740000000           2500000000           1240000000                    0\n"
   pub leading-zero : Refused "   01 1       8       5           3740000000           2500000000           1240000000                    0\n"
-  -- an own quota above the maximum, "-" for one of the two, a maximum of 0
+  -- an own quota above the maximum, "-" for one of the two; an own quota above a maximum of 0
   pub above : Refused "    1 1       5       8           3740000000           2500000000           1240000000                    0\n"
   pub own-missing : Refused "    1 1       8       -           3740000000           2500000000           1240000000                    0\n"
   pub maximum-missing : Refused "    1 1       -       5           3740000000           2500000000           1240000000                    0\n"
-  pub maximum-zero : Refused "    1 1       0       0           3740000000           2500000000           1240000000                    0\n"
+  pub above-zero : Refused "    1 1       0       1           3740000000           2500000000           1240000000                    0\n"
   -- a net that is not open + bought − sold, one without its minus, "-0"; a missing amount
   pub wrong-net : Refused "    1 1       8       5           3740000000           2500000000           1240000000                    1\n"
   pub no-minus : Refused "    1 1       8       0                    1                    0                    0                    1\n"
@@ -114,7 +114,7 @@ examples =
       above = refl;
       own-missing = refl;
       maximum-missing = refl;
-      maximum-zero = refl;
+      above-zero = refl;
       wrong-net = refl;
       no-minus = refl;
       minus-zero = refl;

@@ -8,7 +8,7 @@ use borrow.Author.Tests.{leb-true, le-leb, eqb-true}
 use lib.Dec.{eqb, leb}
 use lib.ListN.{length, take}
 use lib.Seq.{take-all, take-add}
-use Rattle.rules.specs.Tests.{pick, both, within-true}
+use Rattle.rules.specs.Tests.{pick, both}
 use Rattle.rules.specs.Limits.{topQuota, topMoney}
 use Rattle.rules.specs.declared.quotas.Limit.{Limit}
 use Rattle.rules.specs.declared.quotas.Limit.the-variants.{Nothing, At}
@@ -30,10 +30,10 @@ limit-fits : (maximum own : Limit) → limitsKept maximum own ≡ true
     → (optionalFits 8 (isSet maximum) (millionsIn maximum) ≡ true) × (optionalFits 8 (isSet own) (millionsIn own) ≡ true)
 limit-fits Nothing Nothing h = (refl, refl)
 limit-fits Nothing (At o) h = absurd (false≢true h)
-limit-fits (At m) Nothing h = absurd (false≢true (both (leb 1 (m .0) && leb (m .0) topQuota) false h .1))
+limit-fits (At m) Nothing h = absurd (false≢true (both (leb (m .0) topQuota) false h .1))
 limit-fits (At m) (At o) h =
-    let b = both (leb 1 (m .0) && leb (m .0) topQuota) (leb (o .0) (m .0)) h in
-    let w = within-true 1 topQuota (m .0) (b .0) in
+    let b = both (leb (m .0) topQuota) (leb (o .0) (m .0)) h in
+    let w : m .0 ≤ topQuota = leb-true (m .0) topQuota (b .0) in
     let l : o .0 ≤ m .0 = leb-true (o .0) (m .0) (b .1) in
     (true-fits 8 (m .0) (omega arith) (omega arith), true-fits 8 (o .0) (omega arith) (omega arith))
 

@@ -17,12 +17,12 @@ use Rattle.rules.specs.declared.quotas.Limit.the-variants.{Nothing, At}
 use Rattle.history.specs.Past.{atOpening, filledMoney, openIn, boughtIn, soldIn, moneyIn}
 use Rattle.history.specs.Answers.{isTaken, refusals, numberGiven, answer}
 use Rattle.history.specs.Examples.{input}
-use Rattle.history.specs.Runs.{accept, next, after}
+use Rattle.history.specs.Runs.{accept, next, calls, nextEntry, afterAll}
 use Rattle.words.specs.Words.{splice}
 use Rattle.columns.specs.Texts.{bytes}
 use Rattle.claim.specs.Step.{Memory}
 use Rattle.claim.specs.Opening.{placesLent, openRefusal}
-use Rattle.claim.specs.Demand.{run, opened}
+use Rattle.claim.specs.Demand.{runAll, opened}
 use Rattle.rows.specs.Row.{signedNet, rowObeys, rowKept, refusedRow}
 use Rattle.rows.specs.Kept.{moneyFits}
 use Rattle.rows.specs.Room.{difference, roomUnder, roomOf}
@@ -98,26 +98,26 @@ abbrev daysRoom : Room
 daysRoom = record { given = true; left = record { below = false; size = mils 1_260_000_000 } }
 
 -- by the history
-day-left : (length ((after 2_048 shanghai atOpening input) .groups) ≡ 1) × (roomOf (historyRow (after 2_048 shanghai atOpening input) 0) ≡ daysRoom)
-unfolding answer after next numberGiven refusals accept isTaken find put without when sumOver filledMoney openIn boughtIn soldIn moneyIn netOf shanghai stops milsOf isBuy priceRule worseFill quotaBy closedQuota enrolRules attachRules regularRules ownQuotaRules orderRules fillRules cancelRules historyRow signedNet roomOf roomUnder difference
+day-left : (length ((afterAll 2_048 shanghai atOpening (calls input)) .groups) ≡ 1) × (roomOf (historyRow (afterAll 2_048 shanghai atOpening (calls input)) 0) ≡ daysRoom)
+unfolding afterAll nextEntry calls answer next numberGiven refusals accept isTaken find put without when sumOver filledMoney openIn boughtIn soldIn moneyIn netOf shanghai stops milsOf isBuy priceRule worseFill quotaBy closedQuota enrolRules attachRules regularRules ownQuotaRules orderRules fillRules cancelRules historyRow signedNet roomOf roomUnder difference
 day-left = (refl, refl)
 
 module _ (lent : Memory) (o : openRefusal lent ≡ 0) (n : placesLent lent ≡ 2_048) where
-  enrolled : 0 < length ((after (placesLent lent) shanghai atOpening input) .groups)
+  enrolled : 0 < length ((afterAll (placesLent lent) shanghai atOpening (calls input)) .groups)
   enrolled =
-      let one : length ((after (placesLent lent) shanghai atOpening input) .groups) ≡ 1 = ap (λ (N : ℕ). length ((after N shanghai atOpening input) .groups)) n ∙ day-left .0 in
+      let one : length ((afterAll (placesLent lent) shanghai atOpening (calls input)) .groups) ≡ 1 = ap (λ (N : ℕ). length ((afterAll N shanghai atOpening (calls input)) .groups)) n ∙ day-left .0 in
       omega arith
 
-  left : roomOf (historyRow (after (placesLent lent) shanghai atOpening input) 0) ≡ daysRoom
-  left = ap (λ (N : ℕ). roomOf (historyRow (after N shanghai atOpening input) 0)) n ∙ day-left .1
+  left : roomOf (historyRow (afterAll (placesLent lent) shanghai atOpening (calls input)) 0) ≡ daysRoom
+  left = ap (λ (N : ℕ). roomOf (historyRow (afterAll N shanghai atOpening (calls input)) 0)) n ∙ day-left .1
 
-  pub day-refusal : (words : ℕ) → 2 ≤ words → roomRefusal (run shanghai (opened lent) input) 0 words ≡ 0
-  day-refusal words h = room-demand lent o input 0 enrolled .refusal words ∙ ap (λ (r : Room). leftRefusal r words) left ∙ rw (le-ltb words 2 h)
+  pub day-refusal : (words : ℕ) → 2 ≤ words → roomRefusal (runAll shanghai (opened lent) (calls input)) 0 words ≡ 0
+  day-refusal words h = room-demand lent o (calls input) 0 enrolled .refusal words ∙ ap (λ (r : Room). leftRefusal r words) left ∙ rw (le-ltb words 2 h)
 
-  pub day-room : roomPut (run shanghai (opened lent) input) 0 (7 ∷ 7 ∷ 7 ∷ []) ≡ 0 ∷ 1_260_000_000 ∷ 7 ∷ []
+  pub day-room : roomPut (runAll shanghai (opened lent) (calls input)) 0 (7 ∷ 7 ∷ 7 ∷ []) ≡ 0 ∷ 1_260_000_000 ∷ 7 ∷ []
   unfolding splice
   day-room =
-      room-demand lent o input 0 enrolled .room (7 ∷ 7 ∷ 7 ∷ [])
+      room-demand lent o (calls input) 0 enrolled .room (7 ∷ 7 ∷ 7 ∷ [])
       ∙ ap (λ (r : Room). leftPut r (7 ∷ 7 ∷ 7 ∷ [])) left
 
 -- ---- rows of texts

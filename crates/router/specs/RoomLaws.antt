@@ -1,4 +1,4 @@
--- What a router may count on of a room. After every list of calls from a fresh gate it is that of the history's row (`room-demand`); it is told exactly where
+-- What a router may count on of a room. After every list of calls and loads from a fresh gate it is that of the history's row (`room-demand`); it is told exactly where
 -- there is a maximum (`no-maximum`, `a-maximum`); memory that is not sound is answered by 1 (`room-damaged`); a refusal writes no word (`room-kept`).
 -- `room-is` and `room-lets-in` in rows/specs/Room.antt say what its number means. Assumes nothing.
 use Prim.Native.Nat.{ℕ, _<_}
@@ -6,24 +6,23 @@ use mathlib.Core.Path.{_≡_, refl, ap, _∙_}
 use mathlib.Core.Logic.{_≢_}
 use mathlib.Core.Bool.{true, false, not, false≢true}
 use mathlib.Core.List.{List}
-use lib.Dec.{ltb}
+use lib.Dec.{leb, ltb}
 use lib.ListN.{length}
-use Rattle.rules.specs.Tests.{pick, within, both}
+use Rattle.rules.specs.Tests.{pick, both}
 use Rattle.rules.specs.Limits.{topQuota}
 use Rattle.rules.specs.Orders.{shanghai}
 use Rattle.rules.specs.Quotas.{isNone}
 use Rattle.rules.specs.Refusals.{UNSOUND, NO-MAXIMUM, SHORT-BUFFER, unlessRefused}
 use Rattle.rules.specs.Laws.{where-refused, where-accepted}
-use Rattle.rules.specs.declared.calls.Call.{Call}
 use Rattle.rules.specs.declared.money.Millions.{Millions}
 use Rattle.rules.specs.declared.quotas.Limit.{Limit}
 use Rattle.rules.specs.declared.quotas.Limit.the-variants.{Nothing, At}
 use Rattle.history.specs.Past.{History, atOpening}
-use Rattle.history.specs.Runs.{after}
+use Rattle.history.specs.Runs.{Entry, afterAll}
 use Rattle.words.specs.Words.{splice}
 use Rattle.claim.specs.Step.{Memory}
 use Rattle.claim.specs.Opening.{placesLent, openRefusal}
-use Rattle.claim.specs.Demand.{run, opened}
+use Rattle.claim.specs.Demand.{runAll, opened}
 use Rattle.rows.specs.Row.{limitsKept, atMost, rowKept, rowRefusal, rowOf, row-of-kept}
 use Rattle.rows.specs.Kept.{ruled}
 use Rattle.rows.specs.Room.{roomBy, roomOf}
@@ -50,8 +49,8 @@ pub record RoomAs (h : History) (m : Memory) (g : ℕ) : Type 0 where
 
 -- the claim
 abbrev pub RoomDemand : Type 0
-RoomDemand = (lent : Memory) → openRefusal lent ≡ 0 → (cs : List Call) (g : ℕ) → g < length ((after (placesLent lent) shanghai atOpening cs) .groups)
-    → RoomAs (after (placesLent lent) shanghai atOpening cs) (run shanghai (opened lent) cs) g
+RoomDemand = (lent : Memory) → openRefusal lent ≡ 0 → (es : List Entry) (g : ℕ) → g < length ((afterAll (placesLent lent) shanghai atOpening es) .groups)
+    → RoomAs (afterAll (placesLent lent) shanghai atOpening es) (runAll shanghai (opened lent) es) g
 
 module _ (h : History) (m : Memory) (g : ℕ) (r : ReadAs m g (historyRow h g)) where
   refused-as : (lent : ℕ) → roomRefusal m g lent ≡ leftRefusal (roomOf (historyRow h g)) lent
@@ -64,10 +63,10 @@ module _ (h : History) (m : Memory) (g : ℕ) (r : ReadAs m g (historyRow h g)) 
       ∙ ap (λ (x : Row). unlessRefused (leftRefusal (roomOf (historyRow h g)) (length out)) (splice out 0 (roomWords (roomOf x))) out) (r .1)
 
 pub room-demand : RoomDemand
-room-demand lent o cs g l =
-    let h : History = after (placesLent lent) shanghai atOpening cs in
-    let m : Memory = run shanghai (opened lent) cs in
-    let r : ReadAs m g (historyRow h g) = row-read lent o cs g l in
+room-demand lent o es g l =
+    let h : History = afterAll (placesLent lent) shanghai atOpening es in
+    let m : Memory = runAll shanghai (opened lent) es in
+    let r : ReadAs m g (historyRow h g) = row-read lent o es g l in
     record { refusal = refused-as h m g r; room = room-as h m g r }
 
 -- ---- where there is one
@@ -79,7 +78,7 @@ given-by-maximum r k = go (r .maximum) (r .own) (ruled r k .limits)
     go : (maximum own : Limit) → limitsKept maximum own ≡ true → (roomBy own (r .below) (r .net)) .given ≡ not (isNone maximum)
     go Nothing Nothing h = refl
     go Nothing (At q) h = absurd (false≢true h)
-    go (At m) Nothing h = absurd (false≢true (both (within 1 topQuota (m .0)) (atMost Nothing m) h .1))
+    go (At m) Nothing h = absurd (false≢true (both (leb (m .0) topQuota) (atMost Nothing m) h .1))
     go (At m) (At q) h = refl
 
 module _ (m : Memory) (group lent : ℕ) (z : (rowRead m group) .refusal ≡ 0) where

@@ -1,4 +1,4 @@
--- The rows that a router is handed after every list of calls from a fresh gate: they are the history's, and only a short room is refused.
+-- The rows that a router is handed after every list of calls and loads from a fresh gate: they are the history's, and only a short room is refused.
 -- Assumes nothing.
 use Prim.Native.Nat.{ℕ, zero, suc, _+_, _≤_, _<_}
 use mathlib.Core.Path.{_≡_, refl, sym, ap, _∙_}
@@ -12,19 +12,18 @@ use Rattle.rules.specs.Tests.{pick, both}
 use Rattle.rules.specs.Orders.{shanghai}
 use Rattle.rules.specs.Refusals.{UNSOUND, SHORT-BUFFER}
 use Rattle.rules.specs.Laws.{where-accepted}
-use Rattle.rules.specs.declared.calls.Call.{Call}
 use Rattle.rules.specs.declared.kinds.Money.{Money}
 use Rattle.rules.specs.declared.quotas.Limit.{Limit}
 use Rattle.history.specs.Past.{History, atOpening}
-use Rattle.history.specs.Runs.{after}
+use Rattle.history.specs.Runs.{Entry, afterAll}
 use Rattle.words.specs.Words.{splice}
 use Rattle.register.specs.Layout.{groupCount, groupAt}
 use Rattle.quota.specs.Asks.{groupsEnrolled, isEnrolled, ownInForce}
 use Rattle.book.specs.Layout.{moneyAt}
 use Rattle.claim.specs.Step.{Memory}
 use Rattle.claim.specs.Opening.{placesLent, openRefusal}
-use Rattle.claim.specs.Demand.{run, opened}
-use Rattle.claim.specs.Theorem.{Sim, run-sim, opened-sim, demand}
+use Rattle.claim.specs.Demand.{runAll, opened}
+use Rattle.claim.specs.Theorem.{Sim, all-sim, opened-sim, demand}
 use Rattle.orders.specs.Host.{hostOk}
 use Rattle.rows.specs.Row.{rowObeys, rowKept, noRow, refusedRow, madeRow, shownRow, rowRefusal, rowAt, rowOf}
 use Rattle.rows.specs.declared.Row.{Row}
@@ -42,8 +41,8 @@ pub record HandedAs (h : History) (m : Memory) (g : ℕ) : Type 0 where
 
 -- the claim
 abbrev pub RowDemand : Type 0
-RowDemand = (lent : Memory) → openRefusal lent ≡ 0 → (cs : List Call) (g : ℕ) → g < length ((after (placesLent lent) shanghai atOpening cs) .groups)
-    → HandedAs (after (placesLent lent) shanghai atOpening cs) (run shanghai (opened lent) cs) g
+RowDemand = (lent : Memory) → openRefusal lent ≡ 0 → (es : List Entry) (g : ℕ) → g < length ((afterAll (placesLent lent) shanghai atOpening es) .groups)
+    → HandedAs (afterAll (placesLent lent) shanghai atOpening es) (runAll shanghai (opened lent) es) g
 
 -- row k of a list of rows
 
@@ -150,20 +149,20 @@ module _ (N : ℕ) (h : History) (m : Memory) (s : Sim N h m) (count : groupCoun
       let r = row-reads m (s .host) (ap listingKept (d .rows) ∙ d .kept) g (omega (arith, l, enrolled)) in
       (r .0, r .1 ∙ ap (λ (x : List Row). getD x g noRow) (d .rows) ∙ history-at h 0 (length (h .groups)) g l ∙ ap (historyRow h) z)
 
--- after every list of calls from a fresh gate a row is read, and is the history's
-pub row-read : (lent : Memory) → openRefusal lent ≡ 0 → (cs : List Call) (g : ℕ) → g < length ((after (placesLent lent) shanghai atOpening cs) .groups)
-    → ReadAs (run shanghai (opened lent) cs) g (historyRow (after (placesLent lent) shanghai atOpening cs) g)
-row-read lent o cs g l =
-    read-as (placesLent lent) (after (placesLent lent) shanghai atOpening cs) (run shanghai (opened lent) cs)
-    (run-sim (placesLent lent) shanghai cs atOpening (opened lent) (opened-sim lent o))
-    (demand lent o cs .either-market .same-groups)
-    (listing-demand lent o cs)
+-- after every list of calls and loads from a fresh gate a row is read, and is the history's
+pub row-read : (lent : Memory) → openRefusal lent ≡ 0 → (es : List Entry) (g : ℕ) → g < length ((afterAll (placesLent lent) shanghai atOpening es) .groups)
+    → ReadAs (runAll shanghai (opened lent) es) g (historyRow (afterAll (placesLent lent) shanghai atOpening es) g)
+row-read lent o es g l =
+    read-as (placesLent lent) (afterAll (placesLent lent) shanghai atOpening es) (runAll shanghai (opened lent) es)
+    (all-sim (placesLent lent) shanghai es atOpening (opened lent) (opened-sim lent o))
+    (demand lent o es .either-market .same-groups)
+    (listing-demand lent o es)
     g
     l
 
 pub row-demand : RowDemand
-row-demand lent o cs g l =
-    let r = row-read lent o cs g l in
-    let m : Memory = run shanghai (opened lent) cs in
-    let row : Row = historyRow (after (placesLent lent) shanghai atOpening cs) g in
+row-demand lent o es g l =
+    let r = row-read lent o es g l in
+    let m : Memory = runAll shanghai (opened lent) es in
+    let row : Row = historyRow (afterAll (placesLent lent) shanghai atOpening es) g in
     record { refusal = room-decides m g row (r .0) (r .1); row = row-decides m g row (r .0) (r .1) }

@@ -8,7 +8,7 @@ use native.Mathlib.Omega.{arith}
 use borrow.Author.Tests.{ltb-true, eq-eqb}
 use lib.Dec.{leb, ltb, eqb}
 use lib.IntN.{ℤ, pos, negsuc}
-use Rattle.rules.specs.Tests.{pick, within}
+use Rattle.rules.specs.Tests.{pick}
 use Rattle.rules.specs.Limits.{isCode, isClass, isGroup, brokerage, topQuota}
 use Rattle.rules.specs.Money.{mils}
 use Rattle.rules.specs.Quotas.{isNone}
@@ -43,13 +43,13 @@ abbrev pub atMost : Limit → Millions → Bool
 atMost Nothing maximum = false
 atMost (At own) maximum = leb (own .0) (maximum .0)
 
--- "maximum 1 or more"; ""-" stands for a maximum of none, and then for own quota" (Lines and columns)
+-- "listing rows, written or read, may show maximum 0 from now on" (2026-01; before, "maximum 1 or more"); ""-" stands for a maximum of none, and then
+-- for own quota" (Lines and columns)
 abbrev pub limitsKept : Limit → Limit → Bool
 limitsKept Nothing own = isNone own
-limitsKept (At maximum) own = within 1 topQuota (maximum .0) && atMost own maximum
+limitsKept (At maximum) own = leb (maximum .0) topQuota && atMost own maximum
 
--- "A row obeys: each field in its range; class 1, 3 or 4; maximum 1 or more; own quota at most maximum;
--- open + bought + sold at most L" (Lines and columns)
+-- "A row obeys: each field in its range; class 1, 3 or 4; .. own quota at most maximum; open + bought + sold at most L" (Lines and columns)
 unfoldable pub rowObeys : ℕ → ℕ → Limit → Limit → Money → Bool
 rowObeys code class maximum own money = (isCode code && (classKept class && limitsKept maximum own)) && moneyFits money
 

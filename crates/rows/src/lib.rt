@@ -92,13 +92,13 @@ fn at_most(own: Limit, maximum: Millions) -> bool
     }
 }
 
-// Maximum 1 or more and the own quota at most that, or neither.
+// A maximum, 0 included (2026-01), and the own quota at most that, or neither.
 fn limits_kept(maximum: Limit, own: Limit) -> bool
     ensures { λ r. ⌜ r ≡ limitsKept maximum own ⌝ }
 {
     match maximum {
         Limit::Nothing => is_none(own),
-        Limit::At(m) => ((1 <= m.0) & (m.0 <= TOP_QUOTA)) & at_most(own, m),
+        Limit::At(m) => (m.0 <= TOP_QUOTA) & at_most(own, m),
     }
 }
 

@@ -19,7 +19,7 @@ returns : tie.Need-returns
 returns c = search needs
 
 returns-2 : tie.Need-returns-2
-returns-2 c = rw (c .before .before .before .before .maximum .given .1, c .at-most .ensures)
+returns-2 c = rw (c .before .before .before .maximum .given .1, c .at-most .ensures)
 
 pub limits-kept-spec : {M : Type 1} → statement M
 limits-kept-spec =
