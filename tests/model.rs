@@ -221,6 +221,7 @@ impl Quotas {
         if wrong(NinthReplaces) && self.figures.len() == 8 && self.figures.iter().all(|f| f.0 != declarer) { self.figures.remove(0); }
         self.figures.retain(|f| f.0 != declarer);
         if !self.seats.contains(&declarer) { self.seats.push(declarer); }
+        let quota = but(quota, BaseStands, base);
         if base != 0 || wrong(WithdrawnStaysZero) { self.figures.push((declarer, but(quota, FiguresAdd, quota + before))); }
         if wrong(RegularAtOnce) && self.emergency.is_none() { self.maximum = self.of_figures(); }
     }
@@ -580,11 +581,11 @@ fn answer(history: &mut Vec<Accepted>, call: Call) -> (Int, Int) {
 
 // 2026-01: "23, and not 21, when the file isn't of this form or a group is already enrolled, after 2." What isn't of the form has no
 // fields that could be out of their range.
-fn load_refusal(history: &[Accepted], lines: Option<[[Int; 3]; 3]>) -> Int {
+fn load_refusal(history: &[Accepted], text: &[u8]) -> Int {
     let mut r = Refusals::default();
     let outside = |field: usize, x: Int| !in_range(LOAD, field, x);
     let line_outside = |line: &[Int; 3]| (0..3).any(|field| outside(field, line[field]));
-    if let Some(lines) = lines {
+    if let Some(lines) = ratio_lines(text) {
         let mut classes = lines.map(|line| line[0]);
         if wrong(ClassesInAnyOrder) { classes.sort(); }
         let in_order = classes == [1, 3, 4] || wrong(ClassesUnread) || (wrong(ClassTwoForThree) && classes == [1, 2, 4]);
@@ -595,6 +596,7 @@ fn load_refusal(history: &[Accepted], lines: Option<[[Int; 3]; 3]>) -> Int {
         r.when(but(23, OrderIsTwo, 2), !in_order);
     } else {
         r.when(but(23, FormIsTwo, 2), true);
+        r.when(2, wrong(RangesBeforeForm) && numbers_found(text).iter().any(line_outside));
     }
     let enrolled = match () {
         _ if wrong(EnrolledMayLoad) => false,
@@ -609,10 +611,10 @@ fn load_refusal(history: &[Accepted], lines: Option<[[Int; 3]; 3]>) -> Int {
 
 // A load: "The history takes loads". A file that can't be read counts as not formed.
 fn load(history: &mut Vec<Accepted>, file: &str) -> Int {
-    let text = std::fs::read(file).ok();
-    let lines = text.as_deref().and_then(ratio_lines);
-    let refusal = load_refusal(history, lines);
-    if let (Some(mut lines), true) = (lines, (refusal == 0 && !wrong(LoadForgotten)) || wrong(RefusedLoadTakes)) {
+    let text = std::fs::read(file).unwrap_or_default(); // no bytes, which is not formed
+    let refusal = load_refusal(history, &text);
+    let taken = (refusal == 0 && !wrong(LoadForgotten)) || wrong(RefusedLoadTakes);
+    if let (Some(mut lines), true) = (ratio_lines(&text), taken) {
         if wrong(ClassesInAnyOrder) { lines.sort(); }
         let call = Call { code: LOAD, field: [0; 4] };
         history.push(Accepted { call, group: 0, table: Some(lines.map(|line| (line[1], line[2]))) });
@@ -672,6 +674,12 @@ fn ratio_lines(text: &[u8]) -> Option<[[Int; 3]; 3]> {
     Some(lines)
 }
 
+// The lines that have a number in each of their columns, wherever they stand, for one slip
+fn numbers_found(text: &[u8]) -> Vec<[Int; 3]> {
+    let numbers = |line: &[u8]| Some([number(line.get(..2)?)?, number(line.get(2..6)?)?, number(line.get(6..10)?)?]);
+    text.split(|b| *b == b'\n').filter_map(numbers).collect()
+}
+
 // "A listing line is one group in enrolment order: code 5 columns, class 2, maximum 8, own quota 8, net 21, open buys 21, bought 21,
 // sold 21, line feed. "-" stands for a maximum of none, and then for own quota"
 fn listing(history: &[Accepted]) -> String {
@@ -687,6 +695,7 @@ fn listing(history: &[Accepted]) -> String {
         let maximum = shown(q.maximum, q.maximum);
         rows.push((code, format!("{code:>5}{class:>2}{maximum:>8}{own:>8}{net:>21}{:>21}{:>21}{:>21}\n", m.open, m.bought, m.sold)));
     }
+    if wrong(ZeroNotListed) && (0..rows.len()).any(|group| quotas(history, group as Int).maximum == Some(0)) { rows.clear(); }
     if wrong(ListedByCode) { rows.sort_by_key(|row| row.0); }
     rows.into_iter().map(|row| row.1).collect()
 }
@@ -871,6 +880,7 @@ slips! {
     DividedFirst: "base ÷ denominator is rounded, then multiplied";
     RatioInHundredths: "a ratio is rounded to hundredths before it is used";
     QuotaHeld: "a quota above 9,999,999 is held to it";
+    BaseStands: "the base stands as a figure, not the quota";
     ClassOneAlone: "the table serves class 1 alone";
     AllByOne: "the line of class 1 serves every class";
     ThreeByFour: "the line of class 4 serves class 3";
@@ -890,6 +900,7 @@ slips! {
     ZeroSumIsNone: "figures of 0 alone give a maximum of none";
     ZeroSumIsOne: "figures of 0 alone give a maximum of 1";
     ZeroShownAsDash: "a maximum of 0 is shown as -";
+    ZeroNotListed: "no listing is printed where a maximum is 0";
     ZeroErasesOwn: "a maximum of 0 erases the declared own quota";
     OwnAtZeroIsFifteen: "15 at call 7 where the maximum is 0";
     BuyAtZeroIsFifteen: "15, and not 16, for a buy where the maximum is 0";
@@ -899,6 +910,7 @@ slips! {
     // ratio files
     LoadIsMalformed: "21, and not 23, for a ratio file";
     FormIsTwo: "2 for a ratio file that isn't formed";
+    RangesBeforeForm: "2 for a number out of its range in a ratio file that isn't formed";
     RangeIsForm: "23 for a ratio file's number out of its range";
     ClassRangeIsForm: "23 for a class outside 1 to 4 in a ratio file";
     OrderIsTwo: "2 for other classes than 1, 3 and 4 in that order";
