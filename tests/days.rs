@@ -441,6 +441,8 @@ impl Day {
         let due = self.due(group, base);
         let draws = &mut self.ratios.as_mut().unwrap().draws;
         let quota = match draws.weighed(&[40, 3, 3, 2, 2, 1, 1, 1, 1]) {
+            // no quota in range follows: it, or the greatest there is
+            0 if due > TOP_QUOTA => draws.of(&[due, TOP_QUOTA, TOP_QUOTA]),
             0 => due,
             1 => due + 1,
             2 => (due - 1).max(0),
