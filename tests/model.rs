@@ -4,14 +4,14 @@
 // that a listing compares the two.
 //
 //   model [--wrong K] [--ratios TABLE] < FILE   the model; the ratio file TABLE is loaded before the first call, as gateday does
-//   model [--wrong K] --entries FILE            lines `L TABLE` load a ratio file where they stand, all others are call lines (`tests/entries`)
+//   model [--wrong K] --entries FILE            lines `L TABLE` load a ratio file where they stand, others are call lines (`tests/entries`)
 //   model --slips                               the changed rules, a line each: number K and sentence; `tests/compare-wrong` tries them
 //   model --entry-slips                         those that loads in the middle of a day alone can tell (`tests/compare-entries`)
-//   model --rooms [--ratios TABLE] < FILE       the rooms of the groups after the file's last line, as `readlisting` prints them (`tests/rooms`)
+//   model --rooms [--ratios TABLE] < FILE       the rooms of the groups after the last line, as `readlisting` prints them (`tests/rooms`)
 //
-// With `--wrong K` one rule is changed. Changed rules are the slips of `slips!` below, two refusals in the wrong order (SWAPS), a range one too short or too long at one end,
-// and a call's unused fields left unread. `but(right, Slip, wrong)` is `right`, unless the model runs with that slip: read the first
-// argument and pass over the others.
+// With `--wrong K` one rule is changed. Changed rules are the slips of `slips!` below, two refusals in the wrong order (SWAPS), a
+// range one too short or too long at one end, and a call's unused fields left unread. `but(right, Slip, wrong)` is `right`, unless
+// the model runs with that slip: read the first argument and pass over the others.
 
 use std::io::{Read, Write};
 use std::sync::OnceLock;
