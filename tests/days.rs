@@ -2,8 +2,13 @@
 // number's remainder; the rest is drawn. The generator keeps a rough idea of the gate (`Day`), only to aim: at a net one mil below a
 // quota, at the fill that empties an order, at the ninth declarer. Where its idea is wrong the day is aimed worse, and still a day.
 //
-//   days SEED       the day
-//   days --kinds    the kinds of days, a line each
+//   days SEED                  the day
+//   days --ratios SEED         the day's ratio file; nothing where the day has none
+//   days --entries SEED DIR    a day with loads in the middle (`tests/entries`); its ratio files go to DIR
+//   days --kinds               the kinds of days, a line each
+//
+// Every other dozen of days has a ratio file (request 2026-01), one in four of these is refused (REFUSED_FILES). What a ratio file brings is
+// drawn apart (`Ratios`), so that the days without one are those from before the request, byte for byte.
 
 use std::io::Write;
 
@@ -86,7 +91,130 @@ struct Order {
     open: i128,
 }
 
+// ---------------------------------------------------------------- Ratio files
+
+type Table = [(i128, i128); 3]; // numerator and denominator, for classes 1, 3 and 4
+
+const OLD: Table = [(5, 2), (1, 1), (1, 1)];
+const BELOW_ONE: [(i128, i128); 7] = [(1, 100), (1, 100), (1, 50), (1, 10), (1, 3), (2, 5), (3, 100)];
+const HALVES: [(i128, i128); 9] = [(7, 2), (3, 2), (7, 4), (5, 2), (1, 2), (3, 4), (9, 8), (99, 2), (5, 6)];
+const NO_HALVES: [(i128, i128); 6] = [(7, 3), (2, 3), (5, 3), (17, 7), (100, 3), (4, 5)];
+const GREAT: [(i128, i128); 5] = [(100, 1), (100, 1), (99, 1), (100, 99), (100, 100)];
+
+// What is wrong with a refused file, by number
+const REFUSED_FILES: usize = 36;
+
+// A day's ratio file, and what it means for those who aim by it.
+struct Ratios {
+    draws: Draws,
+    text: Vec<u8>,
+    table: Table,  // as the file says, or as it would without its fault
+    accepted: bool,
+}
+
+fn line_of(class: i128) -> usize {
+    match class { 1 => 0, 3 => 1, _ => 2 }
+}
+
+// half up
+fn by_ratio((numerator, denominator): (i128, i128), base: i128) -> i128 {
+    (2 * base * numerator + denominator) / (2 * denominator)
+}
+
+fn drawn_table(draws: &mut Draws) -> Table {
+    let any = |draws: &mut Draws| match draws.below(5) {
+        0 => draws.of(&BELOW_ONE),
+        1 => draws.of(&HALVES),
+        2 => draws.of(&NO_HALVES),
+        3 => draws.of(&GREAT),
+        _ => (draws.within(1, 100), draws.within(1, 100)),
+    };
+    match draws.weighed(&[1, 4, 4, 2, 1, 5]) {
+        0 => OLD,
+        1 => [0; 3].map(|_| draws.of(&BELOW_ONE)),
+        2 => [0; 3].map(|_| draws.of(&HALVES)),
+        3 => [0; 3].map(|_| draws.of(&NO_HALVES)),
+        4 => [0; 3].map(|_| draws.of(&GREAT)),
+        _ => [0; 3].map(|_| any(draws)),
+    }
+}
+
+fn ratio_text(lines: [(i128, i128, i128); 3]) -> Vec<u8> {
+    lines.iter().flat_map(|(class, n, d)| format!("{class:>2}{n:>4}{d:>4}\n").into_bytes()).collect()
+}
+
+impl Ratios {
+    fn drawn(mut draws: Draws, fault: Option<usize>) -> Ratios {
+        let table = drawn_table(&mut draws);
+        let [one, three, four] = table;
+        let mut lines = [(1, one.0, one.1), (3, three.0, three.1), (4, four.0, four.1)];
+        let i = draws.below(3);
+        // faults of the numbers
+        match fault.unwrap_or(REFUSED_FILES) {
+            0 => lines[i].1 = 0,
+            1 => lines[i].1 = 101,
+            2 => lines[i].2 = 0,
+            3 => lines[i].2 = 101,
+            4 => lines[i].0 = 0,
+            5 => lines[i].0 = 5,
+            6 => lines[i].0 = draws.of(&[9, 99]),
+            7 => if draws.one_in(2) { lines[i].1 = 9_999 } else { lines[i].2 = 9_999 },
+            // 2 and 23
+            8 => { lines[0].0 = 2; lines[i].1 = draws.of(&[0, 101]); }
+            9 => { lines.swap(0, 2); lines[i].2 = draws.of(&[0, 101]); }
+            // 23: formed
+            10 => lines[0].0 = 2,
+            11 => lines[1].0 = 2,
+            12 => lines[2].0 = 2,
+            13 => lines.swap(1, 2),
+            14 => lines.swap(0, 1),
+            15 => lines.rotate_left(1),
+            16 => lines[i].0 = lines[(i + 1) % 3].0,
+            // not formed, and a number out of its range
+            31 | 32 => lines[0].1 = draws.of(&[0, 101]),
+            _ => {}
+        }
+        let mut text = ratio_text(lines);
+        let line = 11 * i; // where a line begins
+        let (class, numerator, denominator) = (line + 1, line + 5, line + 9); // their last columns
+        let free = |column: usize, width: usize, text: &[u8]| (column + 1 - width..column).rev().find(|j| text[*j] == b' ');
+        match fault.unwrap_or(REFUSED_FILES) {
+            17 | 31 => { text.pop(); }
+            18 => text.push(b'\n'),
+            19 => text.push(draws.of(b" \0\x1a")),
+            20 => text = String::from_utf8(text).unwrap().replace('\n', "\r\n").into_bytes(),
+            21 => text[32] = b'\r',
+            22 => text[line + 10] = draws.of(b" \0"),
+            23 => text[class - 1] = b'0',
+            24 => if let Some(j) = free(numerator, 4, &text) { text[j] = b'0' },
+            25 => if let Some(j) = free(denominator, 4, &text) { text[j] = b'0' },
+            26 => if let Some(j) = free(numerator, 4, &text) { text[j] = b'+' },
+            27 => if let Some(j) = free(denominator, 4, &text) { text[j] = b'-' },
+            28 => if let Some(j) = free(numerator, 4, &text) { text[numerator - 3..=numerator].rotate_left(j + 4 - numerator) },
+            29 => text[numerator - 3..=numerator].fill(b' '),
+            30 => text[numerator - 3] = draws.of(b"\tx."),
+            32 => if let Some(j) = free(denominator, 4, &text) { text[j] = b'0' },
+            33 => { text.remove(line); }
+            34 => text[class - 1] = 0,
+            35 => { let kept = draws.of(&[0, 11, 22]); text.extend_from_within(..11); if kept > 0 { text.truncate(kept); } }
+            _ => {}
+        }
+        Ratios { draws, text, table, accepted: fault.is_none() }
+    }
+
+    // the ratio file of a day
+    fn of_day(seed: u64) -> Option<Ratios> {
+        if (seed / 12) % 2 == 0 { return None; }
+        let (kind, dozen) = (seed % 12, seed / 24);
+        let refused = (kind + dozen) % 4 == 3;
+        let fault = ((3 * dozen + kind / 4) % REFUSED_FILES as u64) as usize;
+        Some(Ratios::drawn(Draws(seed ^ 0x7261_7469_6f73), refused.then_some(fault)))
+    }
+}
+
 struct Day {
+    ratios: Option<Ratios>,
+    loads: Vec<Vec<u8>>, // ratio files named in the text, of a day with loads in the middle
     draws: Draws,
     text: Vec<u8>,
     groups: Vec<Group>,
@@ -106,6 +234,15 @@ impl Day {
         let line = written(code, field);
         self.text.extend_from_slice(line.as_bytes());
         self.text.push(b'\n');
+    }
+
+    // A line that loads a drawn ratio file, where lines may.
+    fn load(&mut self, dir: &str, draws: &mut Draws) {
+        let fault = draws.one_in(3).then(|| draws.below(REFUSED_FILES));
+        let ratios = Ratios::drawn(Draws(draws.next()), fault);
+        self.text.extend_from_slice(format!("L {dir}/{}\n", self.loads.len()).as_bytes());
+        self.loads.push(ratios.text.clone());
+        if ratios.accepted && self.groups.is_empty() { self.ratios = Some(ratios); }
     }
 
     // ------------------------------------------------------------ fields
@@ -131,6 +268,9 @@ impl Day {
     }
 
     fn due(&self, group: usize, base: i128) -> i128 {
+        if let (Some(ratios), Some(g)) = (&self.ratios, self.groups.get(group)) {
+            if ratios.accepted { return by_ratio(ratios.table[line_of(g.class)], base); }
+        }
         if self.groups.get(group).is_some_and(|g| g.class == 1) { (5 * base + 1) / 2 } else { base }
     }
 
@@ -276,7 +416,86 @@ impl Day {
             3 => base * 5 / 2,
             _ => self.draws.of(&[0, base, 9_999_999, 10_000_000]),
         };
+        let (base, quota) = self.aimed(group, base, quota);
         self.regular(declarer, group, base, quota);
+    }
+
+    // On a day with a ratio file: bases that give 0 or 1, something next to a half, or a quota at the top of its range; and quotas by the
+    // ratios of others.
+    fn aimed(&mut self, group: usize, base: i128, quota: i128) -> (i128, i128) {
+        let class = self.groups.get(group).map_or(4, |g| g.class);
+        let Some(ratios) = &mut self.ratios else { return (base, quota) };
+        let (table, draws) = (ratios.table, &mut ratios.draws);
+        let (n, d) = table[line_of(class)];
+        let drawn = match draws.weighed(&[6, 3, 4, 1, 1]) {
+            0 => base,
+            1 => d / (2 * n) + draws.within(-1, 1),
+            2 => {
+                let bases: Vec<i128> = (0..30).map(|_| draws.within(1, 300)).collect();
+                bases.iter().copied().find(|b| (2 * (b * n % d) - d).abs() <= 2).unwrap_or(bases[0])
+            }
+            3 => (TOP_QUOTA * d / n + draws.within(-1, 2)).min(TOP_QUOTA + 1),
+            _ => draws.within(1, 2 * d),
+        }.max(0);
+        let base = if base == 0 { 0 } else { drawn };
+        let due = self.due(group, base);
+        let draws = &mut self.ratios.as_mut().unwrap().draws;
+        let quota = match draws.weighed(&[40, 3, 3, 2, 2, 1, 1, 1, 1]) {
+            // no quota in range follows: it, or the greatest there is
+            0 if due > TOP_QUOTA => draws.of(&[due, TOP_QUOTA, TOP_QUOTA]),
+            0 => due,
+            1 => due + 1,
+            2 => (due - 1).max(0),
+            3 => by_ratio(OLD[line_of(class)], base),
+            4 => by_ratio(table[line_of(class)], base),
+            5 => by_ratio(table[draws.below(3)], base),
+            6 => base * d / n,
+            7 => draws.of(&[0, 0, base]),
+            _ => draws.of(&[TOP_QUOTA, TOP_QUOTA + 1]),
+        }.min(999_999_999);
+        (base, quota)
+    }
+
+    // A maximum of 0 for a group whose ratio allows it: its figures made 0 or withdrawn, a close, and then own quotas, buys and raises.
+    fn act_zero(&mut self) {
+        let Some(ratios) = &self.ratios else { return };
+        let (table, accepted) = (ratios.table, ratios.accepted);
+        let small = |class| { let (n, d) = table[line_of(class)]; accepted && 2 * n < d };
+        let fitting: Vec<usize> = (0..self.groups.len()).filter(|g| small(self.groups[*g].class)).collect();
+        if fitting.is_empty() { return; }
+        let mut draws = Draws(self.ratios.as_mut().unwrap().draws.next());
+        let group = draws.of(&fitting);
+        let (n, d) = table[line_of(self.groups[group].class)];
+        let greatest = (d - 1) / (2 * n); // that gives 0
+        let code = self.groups[group].code;
+        let newcomer = if self.groups[group].class == 1 { code } else { 500 + draws.within(2, 12) };
+        if draws.one_in(2) { let own = self.groups[group].maximum.map_or(0, |m| draws.of(&[0, 1, m])); self.own(group, own); }
+        if let Some((holder, _, false)) = self.groups[group].emergency { self.file(holder, group); }
+        let base = draws.of(&[1, greatest]);
+        self.regular(newcomer, group, base, 0);
+        for (declarer, _) in self.groups[group].figures.clone() {
+            let base = draws.of(&[0, 0, 1, greatest]);
+            if declarer != newcomer { self.regular(declarer, group, base, 0); }
+        }
+        if draws.one_in(5) { self.regular(newcomer, group, 0, 0); }
+        self.close();
+        let unit = self.units.iter().find(|u| u.1 == group).map_or(77_777, |u| u.0);
+        for _ in 0..draws.below(6) + 2 {
+            match draws.below(8) {
+                0 => self.own(group, draws.of(&[0, 0, 1])),
+                1 | 2 => self.order(unit, draws.of(&[1, 2]), 1, draws.within(1, 3)),
+                3 => self.order(unit, 3, 100_000, 1),
+                4 => {
+                    let (orders, price) = (self.orders.len(), draws.within(1, 4));
+                    self.order(unit, 4, 1, 3);
+                    if self.orders.len() > orders { self.fill(orders + 1, price, 1); }
+                }
+                5 => self.regular(newcomer, group, greatest + draws.within(0, 1), draws.within(0, 1)),
+                6 => { let (quota, flag) = (draws.of(&[0, 1, 1, 2]), draws.of(&[0, 0, 0, 1])); self.raise(newcomer, group, quota, flag); }
+                _ => self.regular(newcomer, group, 0, 0),
+            }
+        }
+        if draws.one_in(3) { self.regular(newcomer, group, d, n); self.close(); }
     }
 
     fn act_raise(&mut self) {
@@ -453,7 +672,7 @@ impl Day {
         let group = self.draws.of(&of_institutions[..of_institutions.len().min(2)]);
         for _ in 0..self.draws.below(5) + 1 {
             let (declarer, base) = (self.declarer(group), self.draws.within(1, self.bases));
-            self.regular(declarer, group, base, base);
+            self.regular(declarer, group, base, self.due(group, base));
         }
     }
 
@@ -657,6 +876,7 @@ impl Day {
         for _ in 0..count {
             let i = self.draws.weighed(weights);
             self.act(i);
+            if self.ratios.as_mut().is_some_and(|ratios| ratios.draws.one_in(25)) { self.act_zero(); }
         }
     }
 }
@@ -665,9 +885,37 @@ fn written(code: i128, f: [i128; 4]) -> String {
     format!("{:>2}{:>9}{:>9}{:>9}{:>9}", code, f[0], f[1], f[2], f[3])
 }
 
-fn day(seed: u64) -> Vec<u8> {
-    let kind = (seed % KINDS.len() as u64) as usize;
-    let mut day = Day {
+// A day with loads in the middle: some before the first enrolment, among calls that are accepted and refused, and some after it.
+fn day_of_loads(seed: u64, dir: &str) -> Day {
+    let mut day = new_day(seed);
+    let mut draws = Draws(seed ^ 0x6c6f_6164_73);
+    let loads = draws.below(5);
+    for i in 0..loads {
+        day.load(dir, &mut draws);
+        if i + 1 == loads { break; }
+        match draws.below(7) {
+            0 => day.close(),
+            1 => day.enrol(draws.within(0, 99_999), draws.of(&[2, 0, 5])),
+            2 => day.enrol(100_000, 1),
+            3 => day.attach(7, 0),
+            4 => day.regular(7, 0, 3, 8),
+            5 => day.line(12, [0; 4]),
+            _ => {}
+        }
+    }
+    day.bases = draws.of(&[9, 200]);
+    day.morning(draws.below(4) + 1);
+    for _ in 0..12 {
+        day.acts(6, &[1, 1, 0, 12, 2, 1, 2, 4, 2, 1, 2, 0, 1, 2, 0, 1, 0]);
+        if draws.one_in(4) { day.load(dir, &mut draws); }
+    }
+    day
+}
+
+fn new_day(seed: u64) -> Day {
+    Day {
+        ratios: None,
+        loads: Vec::new(),
         draws: Draws(seed),
         text: Vec::new(),
         groups: Vec::new(),
@@ -679,7 +927,13 @@ fn day(seed: u64) -> Vec<u8> {
         group_codes: 30,
         repo: false,
         large: false,
-    };
+    }
+}
+
+fn day(seed: u64) -> Vec<u8> {
+    let kind = (seed % KINDS.len() as u64) as usize;
+    let mut day = new_day(seed);
+    day.ratios = Ratios::of_day(seed);
     // weights: enrol attach detach regular raise file own, order fill cancel close malformed, approach crowd emergency own-quota confused
     match kind {
         0 => {
@@ -811,11 +1065,18 @@ fn day(seed: u64) -> Vec<u8> {
 }
 
 fn main() {
-    let argument = std::env::args().nth(1).expect("days SEED | days --kinds");
-    if argument == "--kinds" {
-        for (i, says) in KINDS.iter().enumerate() { println!("{i} {says}"); }
-        return;
-    }
-    let text = day(argument.parse().expect("days SEED: a number"));
+    let arguments: Vec<String> = std::env::args().skip(1).collect();
+    let number = |seed: &str| seed.parse::<u64>().expect("SEED: a number");
+    let text = match arguments.iter().map(String::as_str).collect::<Vec<_>>()[..] {
+        ["--kinds"] => return KINDS.iter().enumerate().for_each(|(i, says)| println!("{i} {says}")),
+        ["--ratios", seed] => Ratios::of_day(number(seed)).map_or(Vec::new(), |ratios| ratios.text),
+        ["--entries", seed, dir] => {
+            let day = day_of_loads(number(seed), dir);
+            for (i, text) in day.loads.iter().enumerate() { std::fs::write(format!("{dir}/{i}"), text).unwrap(); }
+            day.text
+        }
+        [seed] => day(number(seed)),
+        _ => panic!("days SEED | --ratios SEED | --entries SEED DIR | --kinds"),
+    };
     std::io::stdout().write_all(&text).unwrap();
 }

@@ -1,15 +1,17 @@
-// An independent model of `gateday`: call file in, gateday's output out. It is written from document 01 alone. It keeps the list of
-// accepted calls (an order with its group) and nothing else; for every answer and every row it works out again, from that list, what
-// the paper speaks of. Net is Article 16's own sum, never open + bought − sold, so that a listing compares the two.
+// An independent model of `gateday`: call file in, gateday's output out. It is written from document 01 and request 2026-01 alone. It
+// keeps the list of accepted calls and loads (an order with its group, a load with its table) and nothing else; for every answer and
+// every row it works out again, from that list, what the papers speak of. Net is Article 16's own sum, never open + bought − sold, so
+// that a listing compares the two.
 //
-//   model < FILE             the model
-//   model --wrong K < FILE   the model with one rule changed (`tests/compare-wrong`)
-//   model --slips            the changed rules, a line each: number K and sentence
-//   model --rooms < FILE     the rooms of the groups after the file's last line, as `readlisting` prints them (`tests/rooms`)
+//   model [--wrong K] [--ratios TABLE] < FILE   the model; the ratio file TABLE is loaded before the first call, as gateday does
+//   model [--wrong K] --entries FILE            lines `L TABLE` load a ratio file where they stand, others are call lines (`tests/entries`)
+//   model --slips                               the changed rules, a line each: number K and sentence; `tests/compare-wrong` tries them
+//   model --entry-slips                         those that loads in the middle of a day alone can tell (`tests/compare-entries`)
+//   model --rooms [--ratios TABLE] < FILE       the rooms of the groups after the last line, as `readlisting` prints them (`tests/rooms`)
 //
-// Changed rules are the slips of `slips!` below, two refusals in the wrong order (SWAPS), a range one too short or too long at one end,
-// and a call's unused fields left unread. `but(right, Slip, wrong)` is `right`, unless the model runs with that slip: read the first
-// argument and pass over the others.
+// With `--wrong K` one rule is changed. Changed rules are the slips of `slips!` below, two refusals in the wrong order (SWAPS), a
+// range one too short or too long at one end, and a call's unused fields left unread. `but(right, Slip, wrong)` is `right`, unless
+// the model runs with that slip: read the first argument and pass over the others.
 
 use std::io::{Read, Write};
 use std::sync::OnceLock;
@@ -38,10 +40,14 @@ const QUOTA: (Int, Int) = (0, 9_999_999);
 const RAISE: (Int, Int) = (1, 9_999_999); // "emergency quota 0"
 const FLAG: (Int, Int) = (0, 1); // "flag above 1"
 const KIND: (Int, Int) = (1, 6);
+const RATIO: (Int, Int) = (1, 100); // 2026-01: "numerator and denominator (both 1 to 100)"
+
+const LOAD: usize = 0; // stands for a load where calls have their code
 
 // "Codes, with fields"; each used field has its range here.
 fn ranges(code: usize) -> &'static [(Int, Int)] {
     match code {
+        LOAD => &[CLASS, RATIO, RATIO],                 // each line of a ratio file (class, numerator, denominator)
         1 => &[CODE, CLASS],                            // enrol group
         2 => &[UNIT, GROUP],                            // attach unit
         3 => &[UNIT],                                   // detach unit
@@ -103,7 +109,10 @@ fn is_worse(order: &Order, price: Int) -> bool {
 }
 
 // "In a regular declaration the quota equals the asset base for classes 3 and 4, and base × 2.5 rounded half up for class 1."
-fn quota_due(class: Int, base: Int) -> Int {
+// 2026-01: "refusal 8 and the history's quotas go by the table loaded last, by the old ratios before any"
+fn quota_due(history: &[Accepted], class: Int, base: Int) -> Int {
+    let ours = but(true, ClassOneAlone, class == 1);
+    if let Some(table) = table(history).filter(|_| ours) { return quota_by(table, class, base); }
     let two_and_a_half = (base * 25 + but(5, RoundHalfDown, 4)) / 10;
     match class {
         1 => but(two_and_a_half, ClassOneOnce, base),
@@ -112,7 +121,33 @@ fn quota_due(class: Int, base: Int) -> Int {
     }
 }
 
-// ---------------------------------------------------------------- The history: accepted calls, first to last
+type Table = [(Int, Int); 3]; // numerator and denominator, for classes 1, 3 and 4
+
+// 2026-01: "The quota is then base × numerator ÷ denominator, rounded half up."
+fn quota_by(table: Table, class: Int, base: Int) -> Int {
+    let line = match class {
+        1 => 0,
+        3 => but(but(1, ThreeByFour, 2), AllByOne, 0),
+        _ => but(but(2, FourByThree, 1), AllByOne, 0),
+    };
+    let (numerator, denominator) = but(table[line], RatioTurned, (table[line].1, table[line].0));
+    if denominator == 0 { return 0; } // with a slip alone
+    let product = base * numerator;
+    let (whole, rest) = (product / denominator, product % denominator);
+    let more = match () {
+        _ if wrong(RatioDown) => false,
+        _ if wrong(RatioUp) => rest > 0,
+        _ if wrong(RatioHalfDown) => 2 * rest > denominator,
+        _ if wrong(RatioHalfEven) => 2 * rest > denominator || (2 * rest == denominator && whole % 2 == 1),
+        _ => 2 * rest >= denominator,
+    };
+    let due = whole + more as Int;
+    let due = but(due, DividedFirst, (2 * base + denominator) / (2 * denominator) * numerator);
+    let due = but(due, RatioInHundredths, ((200 * numerator + denominator) / (2 * denominator) * base + 50) / 100);
+    but(due, QuotaHeld, due.min(QUOTA.1))
+}
+
+// ---------------------------------------------------------------- The history: accepted calls and loads, first to last
 
 #[derive(Clone, Copy)]
 struct Call {
@@ -122,7 +157,15 @@ struct Call {
 
 struct Accepted {
     call: Call,
-    group: usize, // of an order: "belongs to the group its unit is attached to then"
+    group: usize,         // of an order: "belongs to the group its unit is attached to then"
+    table: Option<Table>, // of a load
+}
+
+// "the table loaded last"; none before any load
+fn table(history: &[Accepted]) -> Option<Table> {
+    let kept = if wrong(TableLostAtClose) { since_close(history) } else { history };
+    let mut loads = kept.iter().filter_map(|a| a.table);
+    if wrong(FirstTableStays) { loads.next() } else { loads.last() }
 }
 
 // "1 adds the group under the number given" ... "the next group number from 0"
@@ -164,15 +207,21 @@ impl Quotas {
     fn of_figures(&self) -> Option<Int> {
         if self.figures.is_empty() { return None; }
         let sum: Int = self.figures.iter().map(|f| f.1).sum();
+        if wrong(ZeroSumIsNone) && sum == 0 { return None; }
+        let sum = but(sum, ZeroSumIsOne, sum.max(1));
         Some(but(sum.min(THRESHOLD), SumNotCapped, sum))
     }
 
     // "Base 0 with quota 0 withdraws the declarer's figure. The last figure of each declarer stands"
+    // 2026-01: "A quota that rounds to 0 from a base above 0 is a standing figure of 0"
     fn regular(&mut self, declarer: Int, base: Int, quota: Int) {
+        if wrong(ZeroKeepsOldFigure) && base != 0 && quota == 0 && self.figures.iter().any(|f| f.0 == declarer) { return; }
+        let base = but(base, QuotaZeroWithdraws, quota);
         let before = self.figures.iter().find(|f| f.0 == declarer).map_or(0, |f| f.1);
         if wrong(NinthReplaces) && self.figures.len() == 8 && self.figures.iter().all(|f| f.0 != declarer) { self.figures.remove(0); }
         self.figures.retain(|f| f.0 != declarer);
         if !self.seats.contains(&declarer) { self.seats.push(declarer); }
+        let quota = but(quota, BaseStands, base);
         if base != 0 || wrong(WithdrawnStaysZero) { self.figures.push((declarer, but(quota, FiguresAdd, quota + before))); }
         if wrong(RegularAtOnce) && self.emergency.is_none() { self.maximum = self.of_figures(); }
     }
@@ -206,6 +255,7 @@ impl Quotas {
     // "At the close the maximum becomes the emergency figure if held and not filed for withdrawal, else ..."
     fn close(&mut self) {
         let of_figures = self.of_figures();
+        if wrong(CloseDropsZeros) { self.figures.retain(|f| f.1 != 0); }
         self.maximum = match &self.emergency {
             Some(e) if !e.filed && wrong(EmergencyForOneDay) => of_figures,
             Some(e) if !e.filed && wrong(RegularOverEmergency) => of_figures.or(Some(e.figure)),
@@ -225,6 +275,7 @@ impl Quotas {
         // itself. A maximum of none erases the declaration."
         if wrong(OwnRestored) && self.declared.is_some() { self.declared = self.peak; }
         self.declared = match (self.maximum, self.declared) {
+            (Some(0), _) if wrong(ZeroErasesOwn) => None,
             (Some(maximum), Some(own)) => Some(but(own.min(maximum), OwnNotLowered, own)),
             (None, declared) if wrong(OwnSurvivesNone) => declared,
             _ => None,
@@ -292,7 +343,7 @@ fn since_close(history: &[Accepted]) -> &[Accepted] {
 fn orders_in(calls: &[Accepted], history: &[Accepted]) -> Vec<Order> {
     let mut orders: Vec<Order> = Vec::new();
     let mut first = 0; // where the current day's orders begin
-    for Accepted { call: Call { code, field: f }, group } in calls {
+    for Accepted { call: Call { code, field: f }, group, .. } in calls {
         let named = |number: Int| (number - 1 - numbers_before(history)) as usize + first;
         match code {
             3 if wrong(DetachEndsOrders) => {
@@ -410,13 +461,18 @@ fn refusal(history: &[Accepted], call: &Call) -> Int {
             let (code, class) = code_and_class(f[1]);
             let q = quotas(history, f[1]);
             let stands = q.figures.iter().any(|figure| figure.0 == f[0]);
+            let stands_above_zero = q.figures.iter().any(|figure| figure.0 == f[0] && figure.1 != 0);
             let standing = but(q.figures.len(), PlaceNotFreed, q.seats.len());
+            let standing = but(standing, ZeroUncounted, q.figures.iter().filter(|figure| figure.1 != 0).count());
             let known = but(stands, PlaceNotFreed, q.seats.contains(&f[0]));
+            let known = but(known, ZeroIsNew, stands_above_zero);
             let withdraws = f[2] == 0;
+            let due = quota_due(history, class, f[2]);
             r.when(6, !enrolled(f[1]));
             r.when(7, (class == 1 || (class == 4 && wrong(SevenForClassFour))) && f[0] != code);
-            r.when(8, f[3] != quota_due(class, f[2]) && !(withdraws && wrong(ZeroWithdrawsWithQuota)));
-            r.when(9, withdraws && !stands);
+            r.when(8, f[3] != due && !(withdraws && wrong(ZeroWithdrawsWithQuota)));
+            r.when(8, wrong(ZeroFigureRefused) && !withdraws && f[3] == 0);
+            r.when(9, but(withdraws, NineByQuota, f[3] == 0) && !but(stands, ZeroNotWithdrawn, stands_above_zero));
             let new = !known || wrong(StandingRefused);
             let full = standing >= but(8, EighthRefused, 7);
             r.when(10, new && full && !wrong(NinthReplaces));
@@ -433,6 +489,7 @@ fn refusal(history: &[Accepted], call: &Call) -> Int {
             r.when(11, wrong(HolderNoSecondRaise) && q.emergency.is_some() && !q.filed());
             r.when(12, q.maximum.is_some_and(|m| but(f[2] <= m, EqualRaisePasses, f[2] < m)));
             r.when(12, wrong(RaiseNeedsMaximum) && q.maximum.is_none());
+            r.when(12, wrong(OneNotAboveZero) && q.maximum == Some(0) && f[2] <= 1);
             r.when(13, (f[3] == 1) != above && !wrong(FlagUnread));
         }
         // withdraw emergency (declarer, group)
@@ -451,7 +508,7 @@ fn refusal(history: &[Accepted], call: &Call) -> Int {
             r.when(6, !enrolled(f[0]));
             r.when(14, q.maximum.is_some_and(|m| but(f[1] > m, OwnAtMaximumRefused, f[1] >= m)));
             r.when(14, wrong(OwnWithoutMaximum) && q.maximum.is_none());
-            r.when(15, q.maximum.is_none());
+            r.when(15, q.maximum.is_none() || (wrong(OwnAtZeroIsFifteen) && q.maximum == Some(0)));
         }
         // order (unit, kind, price, quantity)
         8 => {
@@ -460,10 +517,13 @@ fn refusal(history: &[Accepted], call: &Call) -> Int {
             if let Some(group) = group {
                 let q = quotas(history, group as Int);
                 r.when(15, (is_buy(f[1]) || wrong(SellsNeedMaximum)) && q.maximum.is_none());
+                r.when(15, wrong(BuyAtZeroIsFifteen) && is_buy(f[1]) && q.maximum == Some(0));
                 // "A buy is accepted only if net, before it, is below the own quota; the order that crosses passes (Article 19)."
                 if let Some(own) = q.own_in_force() {
                     let (net, own) = (money(history, group).net, own * MILS_IN_A_MILLION);
                     let reached = but(but(net >= own, CrossingRefused, net >= own || net + f[2] * f[3] > own), ExactPasses, net > own);
+                    let reached = but(reached, ZeroLetsBuy, reached && q.maximum != Some(0));
+                    let reached = but(reached, ZeroStopsEveryBuy, reached || q.maximum == Some(0));
                     r.when(16, (is_buy(f[1]) || wrong(SellsStopped)) && reached);
                 }
             }
@@ -515,19 +575,68 @@ fn answer(history: &mut Vec<Accepted>, call: Call) -> (Int, Int) {
         _ => 0,
     };
     let group = if call.code == 8 { group_of_unit(history, call.field[0]).unwrap() } else { 0 };
-    history.push(Accepted { call, group });
+    history.push(Accepted { call, group, table: None });
     (0, number)
+}
+
+// 2026-01: "23, and not 21, when the file isn't of this form or a group is already enrolled, after 2." What isn't of the form has no
+// fields that could be out of their range.
+fn load_refusal(history: &[Accepted], text: &[u8]) -> Int {
+    let mut r = Refusals::default();
+    let outside = |field: usize, x: Int| !in_range(LOAD, field, x);
+    let line_outside = |line: &[Int; 3]| (0..3).any(|field| outside(field, line[field]));
+    if let Some(lines) = ratio_lines(text) {
+        let mut classes = lines.map(|line| line[0]);
+        if wrong(ClassesInAnyOrder) { classes.sort(); }
+        let in_order = classes == [1, 3, 4] || wrong(ClassesUnread) || (wrong(ClassTwoForThree) && classes == [1, 2, 4]);
+        let class_alone = lines.iter().all(|line| !outside(1, line[1]) && !outside(2, line[2]));
+        let is_form = wrong(RangeIsForm) || (wrong(ClassRangeIsForm) && class_alone);
+        r.when(if is_form { 23 } else { 2 }, lines.iter().any(line_outside));
+        r.when(3, wrong(ClassTwoIsThree) && classes.contains(&2));
+        r.when(but(23, OrderIsTwo, 2), !in_order);
+    } else {
+        r.when(but(23, FormIsTwo, 2), true);
+        r.when(2, wrong(RangesBeforeForm) && numbers_found(text).iter().any(line_outside));
+    }
+    let enrolled = match () {
+        _ if wrong(EnrolledMayLoad) => false,
+        _ if wrong(CloseOpensLoads) => !groups(since_close(history)).is_empty(),
+        _ if wrong(SecondLoadRefused) => history.iter().any(|a| a.call.code == 1 || a.call.code == LOAD),
+        _ if wrong(AnyCallEndsLoads) => history.iter().any(|a| a.call.code != LOAD),
+        _ => !groups(history).is_empty(),
+    };
+    r.when(23, enrolled);
+    but(r.smallest(LOAD), LoadIsMalformed, if r.smallest(LOAD) == 23 { 21 } else { r.smallest(LOAD) })
+}
+
+// A load: "The history takes loads". A file that can't be read counts as not formed.
+fn load(history: &mut Vec<Accepted>, file: &str) -> Int {
+    let text = std::fs::read(file).unwrap_or_default(); // no bytes, which is not formed
+    let refusal = load_refusal(history, &text);
+    let taken = (refusal == 0 && !wrong(LoadForgotten)) || wrong(RefusedLoadTakes);
+    if let (Some(mut lines), true) = (ratio_lines(&text), taken) {
+        if wrong(ClassesInAnyOrder) { lines.sort(); }
+        let call = Call { code: LOAD, field: [0; 4] };
+        history.push(Accepted { call, group: 0, table: Some(lines.map(|line| (line[1], line[2]))) });
+    }
+    if refusal != 0 && wrong(RefusedLoadRestores) { history.retain(|a| a.call.code != LOAD); }
+    refusal
 }
 
 // ---------------------------------------------------------------- Lines and columns
 
 // "All numbers are right-justified with blanks, no leading zeros, no plus"
 fn number(column: &[u8]) -> Option<Int> {
+    number_but(column, [LeftJustified, PlusAccepted, LeadingZeros, BlankIsZero])
+}
+
+// the same, with the slips of its place
+fn number_but(column: &[u8], [left_justified, plus_accepted, leading_zeros, blank_is_zero]: [Slip; 4]) -> Option<Int> {
     let mut text = std::str::from_utf8(column).ok()?.trim_start_matches(' ');
-    if wrong(LeftJustified) { text = text.trim_end_matches(' '); }
-    if wrong(PlusAccepted) { text = text.strip_prefix('+').unwrap_or(text); }
-    while wrong(LeadingZeros) && text.len() > 1 && text.starts_with('0') { text = &text[1..]; }
-    if wrong(BlankIsZero) && text.is_empty() { return Some(0); }
+    if wrong(left_justified) { text = text.trim_end_matches(' '); }
+    if wrong(plus_accepted) { text = text.strip_prefix('+').unwrap_or(text); }
+    while wrong(leading_zeros) && text.len() > 1 && text.starts_with('0') { text = &text[1..]; }
+    if wrong(blank_is_zero) && text.is_empty() { return Some(0); }
     let plain = !text.is_empty() && text.bytes().all(|b| b.is_ascii_digit()) && (text == "0" || !text.starts_with('0'));
     if plain { text.parse().ok() } else { None }
 }
@@ -548,19 +657,45 @@ fn call_of(line: &[u8]) -> Option<Call> {
     Some(Call { code: code as usize, field })
 }
 
+// 2026-01: "The file is three lines, for classes 1, 3 and 4 in that order: class, numerator and denominator .. in columns of 2, 4 and 4,
+// line feed." The nine numbers of a file of three such lines, whatever they are.
+fn ratio_lines(text: &[u8]) -> Option<[[Int; 3]; 3]> {
+    let mut text = text.to_vec();
+    if wrong(RatioTailIgnored) { text.truncate(33); }
+    if wrong(RatioLastLineFeed) && text.len() == 32 { text.push(b'\n'); }
+    if wrong(RatioCarriageReturn) { text = String::from_utf8_lossy(&text).replace("\r\n", "\n").into_bytes(); }
+    let number = |column| number_but(column, [RatioLeftJustified, RatioPlus, RatioLeadingZeros, RatioBlankIsZero]);
+    if text.len() != 33 { return None; }
+    let mut lines = [[0; 3]; 3];
+    for (line, numbers) in text.chunks(11).zip(&mut lines) {
+        if line[10] != b'\n' && !wrong(RatioLineFeedUnread) { return None; }
+        *numbers = [number(&line[..2])?, number(&line[2..6])?, number(&line[6..10])?];
+    }
+    Some(lines)
+}
+
+// The lines that have a number in each of their columns, wherever they stand, for one slip
+fn numbers_found(text: &[u8]) -> Vec<[Int; 3]> {
+    let numbers = |line: &[u8]| Some([number(line.get(..2)?)?, number(line.get(2..6)?)?, number(line.get(6..10)?)?]);
+    text.split(|b| *b == b'\n').filter_map(numbers).collect()
+}
+
 // "A listing line is one group in enrolment order: code 5 columns, class 2, maximum 8, own quota 8, net 21, open buys 21, bought 21,
 // sold 21, line feed. "-" stands for a maximum of none, and then for own quota"
 fn listing(history: &[Accepted]) -> String {
     let or_dash = |quota: Option<Int>| quota.map_or("-".to_string(), |q| q.to_string());
+    // 2026-01: "listing rows, written or read, may show maximum 0 from now on"
+    let shown = |quota: Option<Int>, maximum: Option<Int>| or_dash(but(quota, ZeroShownAsDash, quota.filter(|_| maximum != Some(0))));
     let mut rows: Vec<(Int, String)> = Vec::new();
     for (group, (code, class)) in groups(history).into_iter().enumerate() {
         let q = quotas(history, group as Int);
         let m = money(history, group);
-        let own = but(or_dash(q.own_in_force()), OwnNoneZero, q.own_in_force().unwrap_or(0).to_string());
+        let own = but(shown(q.own_in_force(), q.maximum), OwnNoneZero, q.own_in_force().unwrap_or(0).to_string());
         let net = if wrong(MinusZero) && m.net == 0 { "-0".to_string() } else { but(m.net, NetUnsigned, m.net.max(0)).to_string() };
-        let maximum = or_dash(q.maximum);
+        let maximum = shown(q.maximum, q.maximum);
         rows.push((code, format!("{code:>5}{class:>2}{maximum:>8}{own:>8}{net:>21}{:>21}{:>21}{:>21}\n", m.open, m.bought, m.sold)));
     }
+    if wrong(ZeroNotListed) && (0..rows.len()).any(|group| quotas(history, group as Int).maximum == Some(0)) { rows.clear(); }
     if wrong(ListedByCode) { rows.sort_by_key(|row| row.0); }
     rows.into_iter().map(|row| row.1).collect()
 }
@@ -574,27 +709,45 @@ fn rooms(history: &[Accepted]) -> String {
 
 fn main() {
     let arguments: Vec<String> = std::env::args().skip(1).collect();
-    let mut rooms_alone = false;
-    match arguments.iter().map(String::as_str).collect::<Vec<_>>()[..] {
-        [] => {}
-        ["--rooms"] => rooms_alone = true,
-        ["--slips"] => {
-            for (i, (_, says)) in variants().iter().enumerate() { println!("{} {}", i + 1, says); }
-            return;
+    let mut rest = arguments.iter().map(String::as_str);
+    let (mut rooms_alone, mut ratios, mut entries) = (false, None, None);
+    while let Some(argument) = rest.next() {
+        match argument {
+            "--rooms" => rooms_alone = true,
+            "--slips" => return said(|wrong| !told_by_entries(wrong)),
+            "--entry-slips" => return said(told_by_entries),
+            "--ratios" => ratios = Some(rest.next().expect("--ratios TABLE")),
+            "--entries" => entries = Some(rest.next().expect("--entries FILE")),
+            "--wrong" => {
+                let k = rest.next().and_then(|k| k.parse::<usize>().ok());
+                let variant = k.and_then(|k| variants().into_iter().nth(k.wrapping_sub(1)));
+                let _ = WRONG.set(variant.expect("--wrong K: a number of --slips or --entry-slips").0);
+            }
+            _ => panic!("model [--wrong K] [--rooms] [--ratios TABLE | --entries FILE] | --slips | --entry-slips"),
         }
-        ["--wrong", k] => {
-            let variant = k.parse::<usize>().ok().and_then(|k| variants().into_iter().nth(k.wrapping_sub(1)));
-            let _ = WRONG.set(variant.expect("--wrong K: a number of --slips").0);
-        }
-        _ => panic!("model [--wrong K | --slips | --rooms]"),
     }
     let mut input = Vec::new();
-    std::io::stdin().read_to_end(&mut input).unwrap();
+    match entries {
+        Some(file) => input = std::fs::read(file).expect("--entries FILE: a file that can be read"),
+        None => { std::io::stdin().read_to_end(&mut input).unwrap(); }
+    }
     let mut output = String::new();
     let mut history = Vec::new();
+    // The load's answer is the first line; a refused one leaves the old ratios, and the day goes on.
+    if let Some(file) = ratios {
+        let refusal = load(&mut history, file);
+        if refusal != 0 || !wrong(LoadSilent) { output += &format!("{refusal:>3}{:>6}\n", 0); }
+        if refusal != 0 && wrong(RefusedLoadEndsDay) { input.clear(); }
+    }
     // "prints for each the refusal number or 0 in 3 columns and the group or order number given (else 0) in 6, line feed ... A malformed
     // line, or a last one without line feed, prints 21 with 0 and is skipped."
     for line in input.split_inclusive(|b| *b == b'\n') {
+        let table = line.strip_suffix(b"\n").and_then(|text| text.strip_prefix(b"L ")).filter(|_| entries.is_some());
+        if let Some(file) = table {
+            let refusal = load(&mut history, std::str::from_utf8(file).expect("L TABLE"));
+            output += &format!("{refusal:>3}{:>6}\n", 0);
+            continue;
+        }
         let call = match line.strip_suffix(b"\n") {
             Some(b"") if wrong(EmptyLineSilent) => continue,
             Some(text) => call_of(text),
@@ -718,9 +871,88 @@ slips! {
     MinusZero: "a net of 0 is shown as -0";
     NetUnsigned: "a net below 0 is shown as 0";
     ListedByCode: "the listing is in the order of codes";
+    // ratio tables: the quota
+    RatioDown: "a loaded ratio's quota is rounded down";
+    RatioUp: "a loaded ratio's quota is rounded up";
+    RatioHalfDown: "a loaded ratio's quota is rounded half down";
+    RatioHalfEven: "a loaded ratio's quota is rounded half to even";
+    RatioTurned: "base × denominator ÷ numerator";
+    DividedFirst: "base ÷ denominator is rounded, then multiplied";
+    RatioInHundredths: "a ratio is rounded to hundredths before it is used";
+    QuotaHeld: "a quota above 9,999,999 is held to it";
+    BaseStands: "the base stands as a figure, not the quota";
+    ClassOneAlone: "the table serves class 1 alone";
+    AllByOne: "the line of class 1 serves every class";
+    ThreeByFour: "the line of class 4 serves class 3";
+    FourByThree: "the line of class 3 serves class 4";
+    LoadForgotten: "the old ratios go on after an accepted load";
+    TableLostAtClose: "the close brings the old ratios back";
+    RefusedLoadTakes: "a refused load, if formed, changes the table";
+    // ratio tables: figures of 0, maximum 0
+    ZeroFigureRefused: "8 for a base above 0 that gives 0";
+    QuotaZeroWithdraws: "a quota of 0 withdraws, whatever its base";
+    NineByQuota: "9 for a quota of 0, whatever its base, where no figure of that declarer stands";
+    ZeroNotWithdrawn: "9 for the withdrawal of a figure of 0";
+    ZeroKeepsOldFigure: "a quota of 0 with a base above 0 leaves the declarer's old figure";
+    ZeroUncounted: "a figure of 0 is not counted among the eight";
+    ZeroIsNew: "10 for a declarer whose figure of 0 stands";
+    CloseDropsZeros: "the close drops figures of 0";
+    ZeroSumIsNone: "figures of 0 alone give a maximum of none";
+    ZeroSumIsOne: "figures of 0 alone give a maximum of 1";
+    ZeroShownAsDash: "a maximum of 0 is shown as -";
+    ZeroNotListed: "no listing is printed where a maximum is 0";
+    ZeroErasesOwn: "a maximum of 0 erases the declared own quota";
+    OwnAtZeroIsFifteen: "15 at call 7 where the maximum is 0";
+    BuyAtZeroIsFifteen: "15, and not 16, for a buy where the maximum is 0";
+    ZeroLetsBuy: "buys pass under a maximum of 0";
+    ZeroStopsEveryBuy: "16 for every buy under a maximum of 0, net below 0 too";
+    OneNotAboveZero: "12 for a raise to 1 where the maximum is 0";
+    // ratio files
+    LoadIsMalformed: "21, and not 23, for a ratio file";
+    FormIsTwo: "2 for a ratio file that isn't formed";
+    RangesBeforeForm: "2 for a number out of its range in a ratio file that isn't formed";
+    RangeIsForm: "23 for a ratio file's number out of its range";
+    ClassRangeIsForm: "23 for a class outside 1 to 4 in a ratio file";
+    OrderIsTwo: "2 for other classes than 1, 3 and 4 in that order";
+    ClassTwoIsThree: "3 for class 2 in a ratio file";
+    ClassTwoForThree: "class 2 may stand for 3 in a ratio file";
+    ClassesInAnyOrder: "the three lines may come in any order";
+    ClassesUnread: "the classes of a ratio file are not compared";
+    RatioLeadingZeros: "leading zeros are accepted in a ratio file";
+    RatioPlus: "a plus is accepted in a ratio file";
+    RatioLeftJustified: "numbers may stand anywhere in their columns of a ratio file";
+    RatioBlankIsZero: "a blank column of a ratio file is 0";
+    RatioLastLineFeed: "a ratio file's last line needs no line feed";
+    RatioTailIgnored: "what stands behind the 33rd byte of a ratio file is overlooked";
+    RatioCarriageReturn: "carriage returns before the line feeds of a ratio file are accepted";
+    RatioLineFeedUnread: "any byte may stand for a ratio file's line feeds";
+    RefusedLoadEndsDay: "a refused load ends the day";
+    LoadSilent: "an accepted load prints nothing";
+    // loads in the middle of a day (ENTRY_SLIPS)
+    EnrolledMayLoad: "a load after an enrolment is accepted";
+    SecondLoadRefused: "23 for a load after an accepted one";
+    FirstTableStays: "the table loaded first stays";
+    RefusedLoadRestores: "a refused load brings the old ratios back";
+    CloseOpensLoads: "23 only where a group was enrolled since the close";
+    AnyCallEndsLoads: "23 after any accepted call";
 }
+
+// What a load before the first call can't show: gateday's days don't tell these.
+const ENTRY_SLIPS: &[Slip] = &[EnrolledMayLoad, SecondLoadRefused, FirstTableStays, RefusedLoadRestores, CloseOpensLoads, AnyCallEndsLoads];
+
+fn told_by_entries(wrong: &Wrong) -> bool {
+    matches!(wrong, Wrong::Rule(slip) if ENTRY_SLIPS.contains(slip))
+}
+
+fn said(asked: impl Fn(&Wrong) -> bool) {
+    for (i, (wrong, says)) in variants().iter().enumerate() {
+        if asked(wrong) { println!("{} {}", i + 1, says); }
+    }
+}
+
 // Two refusals of a call that may apply together: the call, the smaller, the greater. A variant returns the greater.
 const SWAPS: &[(usize, Int, Int)] = &[
+    (LOAD, 2, 23),
     (1, 2, 3), (1, 2, 5), (1, 3, 5), (1, 4, 5),
     (2, 2, 4), (2, 2, 5), (2, 2, 6), (2, 4, 5), (2, 4, 6), (2, 5, 6),
     (3, 2, 6),
@@ -751,16 +983,20 @@ enum Wrong {
     Unused(usize),            // call
 }
 
+fn named(call: usize) -> String {
+    if call == LOAD { "a ratio file".to_string() } else { format!("call {call}") }
+}
+
 // Every variant with its sentence; `--wrong K` is the K-th from 1.
 fn variants() -> Vec<(Wrong, String)> {
     let mut all: Vec<(Wrong, String)> = SLIPS.iter().map(|(slip, says)| (Wrong::Rule(*slip), says.to_string())).collect();
     for (call, small, great) in SWAPS {
-        all.push((Wrong::Swap(*call, *small, *great), format!("call {call}: {great} comes before {small}")));
+        all.push((Wrong::Swap(*call, *small, *great), format!("{}: {great} comes before {small}", named(*call))));
     }
-    for call in 1..=11 {
-        if ranges(call).len() < 4 { all.push((Wrong::Unused(call), format!("call {call}: an unused field may hold any number"))); }
+    for call in LOAD..=11 {
+        if call != LOAD && ranges(call).len() < 4 { all.push((Wrong::Unused(call), format!("call {call}: an unused field may hold any number"))); }
         for (field, (least, greatest)) in ranges(call).iter().enumerate() {
-            let at = format!("call {call}, field {}", field + 1);
+            let at = format!("{}, field {}", named(call), field + 1);
             if *least > 0 { all.push((Wrong::Range(call, field, BelowLeastPasses), format!("{at}: {} is in the range", least - 1))); }
             all.push((Wrong::Range(call, field, LeastRefused), format!("{at}: {least} is out of the range")));
             all.push((Wrong::Range(call, field, GreatestRefused), format!("{at}: {greatest} is out of the range")));

@@ -1,5 +1,6 @@
-// An independent reader of listings: what `readlisting` must print for a text. It is written from document 01 ("Lines and columns") and from
-// the program's description (issue 15), and shares nothing with the gate's code. Money is i128, so that no sum here has an edge of its own.
+// An independent reader of listings: what `readlisting` must print for a text. It is written from document 01 ("Lines and columns"), from
+// request 2026-01 (a maximum of 0) and from the program's description (issue 15), and shares nothing with the gate's code. Money is i128, so
+// that no sum here has an edge of its own.
 //
 //   rooms < TEXT             the rooms, or ` 21`
 //   rooms --wrong K < TEXT   the reader with one rule changed
@@ -110,8 +111,8 @@ fn row_of(line: &[u8]) -> Option<Row> {
     })
 }
 
-// "A row obeys: each field in its range; class 1, 3 or 4; maximum 1 or more; own quota at most maximum; open + bought + sold at most L;
-// net = open + bought − sold"
+// "A row obeys: each field in its range; class 1, 3 or 4; [..] own quota at most maximum; open + bought + sold at most L; net = open +
+// bought − sold". 2026-01, where document 01 has "maximum 1 or more": "listing rows, written or read, may show maximum 0 from now on".
 fn obeys(row: &Row) -> bool {
     let within = |least: Int, greatest: Int, x: Int| least <= x && x <= greatest;
     let code = within(but(0, CodeZero, 1), but(TOP_CODE, CodeTop, TOP_CODE - 1), row.code);
@@ -148,7 +149,10 @@ fn net_agrees(row: &Row) -> bool {
 fn quotas_agree(row: &Row) -> bool {
     match (row.maximum, row.own) {
         (Some(maximum), Some(own)) => {
-            let least = match () { _ if wrong(MaximumZero) => 0, _ if wrong(MaximumTwo) => 2, _ => 1 };
+            let least = but(0, MaximumZeroRefused, 1);
+            if wrong(MaximumOneRefused) && maximum == 1 { return false; }
+            if wrong(OwnUnreadAtZero) && maximum == 0 { return own <= TOP_QUOTA; }
+            if wrong(NetAtZeroRefused) && maximum == 0 && row.net > 0 { return false; }
             let greatest = match () { _ if wrong(MaximumTopMore) => TOP_QUOTA + 1, _ if wrong(MaximumTopLess) => TOP_QUOTA - 1, _ => TOP_QUOTA };
             let in_range = least <= maximum && maximum <= greatest && own >= but(0, OwnZeroRefused, 1);
             let at_most = own <= but(maximum, OwnOneMore, maximum + 1) && !(wrong(OwnAtMaximum) && own == maximum);
@@ -156,7 +160,7 @@ fn quotas_agree(row: &Row) -> bool {
         }
         (None, None) => !wrong(NoneRefused),
         (None, Some(own)) => wrong(MaximumDashAlone) || (wrong(OwnZeroAtNone) && own == 0),
-        (Some(_), None) => wrong(OwnDashAlone),
+        (Some(maximum), None) => wrong(OwnDashAlone) || (wrong(OwnDashAtZero) && maximum == 0),
     }
 }
 
@@ -211,6 +215,7 @@ fn listing(text: &[u8]) -> Result<Vec<Row>, Vec<Row>> {
 
 // "the room left, own quota − net in mils, signed"; none where the maximum is none
 fn room(row: &Row) -> Option<Int> {
+    if wrong(ZeroHasNoRoom) && row.maximum == Some(0) { return None; }
     let own = but(row.own, RoomOfMaximum, row.maximum)? * match () {
         _ if wrong(RoomUnconverted) => 1,
         _ if wrong(RoomInThousands) => 1_000_000,
@@ -377,8 +382,8 @@ slips! {
     ClassOne: "class 1 is refused";
     ClassThree: "class 3 is refused";
     ClassFour: "class 4 is refused";
-    MaximumZero: "a maximum of 0 is accepted";
-    MaximumTwo: "a maximum of 1 is refused";
+    MaximumZeroRefused: "a maximum of 0 is refused";
+    MaximumOneRefused: "a maximum of 1 is refused";
     MaximumTopMore: "a maximum of 10,000,000 is accepted";
     MaximumTopLess: "a maximum of 9,999,999 is refused";
     OwnOneMore: "an own quota one above the maximum is accepted";
@@ -388,6 +393,9 @@ slips! {
     OwnZeroAtNone: "an own quota of 0 is accepted where the maximum is none";
     MaximumDashAlone: "a dash for the maximum alone is accepted";
     OwnDashAlone: "a dash for the own quota alone is accepted";
+    OwnUnreadAtZero: "any own quota is accepted where the maximum is 0";
+    OwnDashAtZero: "a dash for the own quota is accepted where the maximum is 0";
+    NetAtZeroRefused: "a net above 0 is refused where the maximum is 0";
     NoneRefused: "a maximum of none is refused";
     NoneIsZeroNet: "a net other than 0 is refused where the maximum is none";
     SumOneMore: "open + bought + sold may be L + 1";
@@ -429,6 +437,7 @@ slips! {
     RoomOneLess: "the room is one mil short";
     RoomMinusZero: "a room of 0 is shown as -0";
     NoneIsZero: "the room is 0 where the maximum is none";
+    ZeroHasNoRoom: "a dash is printed where the maximum is 0";
     NoneLeft: "the dash stands at the left of its columns";
     NoneOmitted: "rows with a maximum of none are left out";
     ZerosPrinted: "codes are printed with leading zeros";

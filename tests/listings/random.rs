@@ -55,7 +55,7 @@ type Figures = [i128; 8];
 
 fn quotas(draws: &mut Draws) -> (i128, i128) {
     if draws.one_in(5) { return (-1, -1); }
-    let maximum = draws.figure(TOP_QUOTA).max(1);
+    let maximum = draws.figure(TOP_QUOTA);
     (maximum, draws.figure(maximum))
 }
 
