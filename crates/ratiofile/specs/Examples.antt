@@ -3,13 +3,13 @@
 use Prim.Native.Nat.{ℕ}
 use Prim.Native.String.{String, _++_}
 use mathlib.Core.Path.{_≡_, refl}
-use mathlib.Core.Bool.{true}
+use mathlib.Core.Bool.{true, false}
 use lib.ListN.{set}
 use Rattle.rules.specs.declared.loads.RatioLine.{RatioLine}
 use Rattle.rules.specs.declared.loads.RatioFile.{RatioFile}
 use Rattle.columns.specs.Column.{byteAt, marked, number, digits, same, readPlain, plainAt}
 use Rattle.columns.specs.Texts.{bytes}
-use Rattle.ratiofile.specs.File.{lineText, fileText, lineIn, fileFormed, fileOf, notFormed, fileIn}
+use Rattle.ratiofile.specs.File.{lineText, fileText, lineIn, fileFormed, fileOf, fileIn}
 
 abbrev line : ℕ → ℕ → ℕ → RatioLine
 line class numerator denominator = record { class = class; numerator = numerator; denominator = denominator }
@@ -18,8 +18,12 @@ line class numerator denominator = record { class = class; numerator = numerator
 abbrev Says : String → RatioFile → Type 0
 Says t f = (fileText f ≡ bytes t) × (fileIn (bytes t) ≡ f)
 
+-- of a text that is not formed nothing is kept
+abbrev nothing : RatioFile
+nothing = fileOf false (line 0 0 0) (line 0 0 0) (line 0 0 0)
+
 abbrev NotFormed : String → Type 0
-NotFormed t = fileIn (bytes t) ≡ notFormed
+NotFormed t = fileIn (bytes t) ≡ nothing
 
 abbrev ours : String
 ours = " 1   5   2\n 3   1   1\n 4   1   1\n"
@@ -109,8 +113,8 @@ pub record Examples : Type 0 where
   pub one-to-the-left : NoLine "1   1   1 "
   pub one-to-the-right : NoLine "  1   1   "
   -- bytes that no quoted text has: 0 for a blank, and the digit 1 with its top bit
-  pub zero-byte : fileIn (set (bytes ours) 0 0) ≡ notFormed
-  pub top-bit : fileIn (set (bytes ours) 1 177) ≡ notFormed
+  pub zero-byte : fileIn (set (bytes ours) 0 0) ≡ nothing
+  pub top-bit : fileIn (set (bytes ours) 1 177) ≡ nothing
 
 pub examples : Examples
 unfolding byteAt marked number digits same readPlain plainAt lineText fileText lineIn fileFormed fileIn

@@ -89,22 +89,26 @@ file-back f h =
     let e₃ : thirdLine (fileText f) ≡ record { formed = true; numbers = f .third } = ap lineIn (third-part f) ∙ line-back (f .third) (k .1) in
     rw (length-file f, e₁, e₂, e₃)
 
--- a file that a load may take has room in its columns, so it is read back
-line-room : (l : RatioLine) → lineInRange l ≡ true → lineFits l ≡ true
-line-room l h =
+-- room, in numbers
+pub line-room : (l : RatioLine) → l .class < 100 → l .numerator < 10000 → l .denominator < 10000 → lineFits l ≡ true
+line-room l a b c = rw (lt-ltb (l .class) 100 a, lt-ltb (l .numerator) 10000 b, lt-ltb (l .denominator) 10000 c)
+
+line-in-range : (l : RatioLine) → lineInRange l ≡ true → lineFits l ≡ true
+line-in-range l h =
     let f = both (isClass (l .class)) (isRatio (l .numerator) && isRatio (l .denominator)) h in
     let g = both (isRatio (l .numerator)) (isRatio (l .denominator)) (f .1) in
-    let n₀ : l .class < 100 = omega (arith, within-true _ _ (l .class) (f .0)) in
-    let n₁ : l .numerator < 10000 = omega (arith, within-true _ _ (l .numerator) (g .0)) in
-    let n₂ : l .denominator < 10000 = omega (arith, within-true _ _ (l .denominator) (g .1)) in
-    rw (lt-ltb (l .class) 100 n₀, lt-ltb (l .numerator) 10000 n₁, lt-ltb (l .denominator) 10000 n₂)
+    let a : l .class < 100 = omega (arith, within-true _ _ (l .class) (f .0)) in
+    let b : l .numerator < 10000 = omega (arith, within-true _ _ (l .numerator) (g .0)) in
+    let c : l .denominator < 10000 = omega (arith, within-true _ _ (l .denominator) (g .1)) in
+    line-room l a b c
 
+-- a file that a load may take has room in its columns, so it is read back
 pub in-range-fits : (f : RatioFile) → fileInRange f ≡ true → fileFits f ≡ true
 unfolding fileFits
 in-range-fits f h =
     let g = both (lineInRange (f .first)) (lineInRange (f .second) && lineInRange (f .third)) h in
     let k = both (lineInRange (f .second)) (lineInRange (f .third)) (g .1) in
-    rw (line-room (f .first) (g .0), line-room (f .second) (k .0), line-room (f .third) (k .1))
+    rw (line-in-range (f .first) (g .0), line-in-range (f .second) (k .0), line-in-range (f .third) (k .1))
 
 -- ---- whatever is read is what is written for it
 

@@ -3,4 +3,4 @@
 // A line, its line feed with it.
 pub const LINE_BYTES: usize = 11;
 
-pub const FILE_BYTES: usize = 33;
+pub const FILE_BYTES: usize = 3 * LINE_BYTES;

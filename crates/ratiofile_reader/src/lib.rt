@@ -4,7 +4,6 @@ ghost use lib.ListN.{length};
 ghost use Rattle.ratiofile.specs.File.{lineBytes, lineIn, notFormed, fileIn};
 use columns_read::plain_at;
 use ratiofile::layout::FILE_BYTES;
-use ratiofile::layout::LINE_BYTES;
 use ratiofile::reading::Line;
 use rules::loads::RatioFile;
 use rules::loads::RatioLine;
@@ -52,9 +51,9 @@ pub fn read_file(text: &[u8]) -> RatioFile
     if text.len() != FILE_BYTES {
         return not_formed();
     }
-    let first = line_in(&text[0..LINE_BYTES]);
-    let second = line_in(&text[LINE_BYTES..22]);
-    let third = line_in(&text[22..FILE_BYTES]);
+    let first = line_in(&text[0..11]);
+    let second = line_in(&text[11..22]);
+    let third = line_in(&text[22..33]);
     if !(first.formed & (second.formed & third.formed)) {
         return not_formed();
     }
