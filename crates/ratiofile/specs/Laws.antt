@@ -1,5 +1,6 @@
 -- Both laws of the file: nine numbers that fit their columns are read back from their text (`file-back`), and a text that is formed is exactly the text
--- that is written for what is read, 33 bytes (`file-only`). A file that a load may take has room in its columns (`in-range-fits`). Assumes nothing.
+-- that is written for what is read, 33 bytes (`file-only`). Of any other text nothing is kept (`file-none`). A file that a load may take has room in its
+-- columns (`in-range-fits`). Assumes nothing.
 use Prim.Native.Nat.{ℕ, suc, _+_, _<_, _≤_}
 use mathlib.Core.Path.{_≡_, refl, ap, sym, _∙_}
 use mathlib.Core.Bool.{Bool, true, false, _&&_, false≢true}
@@ -17,7 +18,8 @@ use Rattle.rules.specs.declared.loads.RatioFile.{RatioFile}
 use Rattle.columns.specs.Column.{marked, column, fits, plainAt, part}
 use Rattle.columns.specs.Laws.{length-marked}
 use Rattle.columns.specs.Pastes.{plain-at-only, plain-at-back, length-part}
-use Rattle.ratiofile.specs.File.{lineBytes, fileBytes, lineText, fileText, lineFits, fileFits, lineIn, firstLine, secondLine, thirdLine, fileFormed, fileOf, notFormed, fileIn}
+use Rattle.ratiofile.specs.File.{lineBytes, fileBytes, lineText, fileText, lineFits, fileFits}
+use Rattle.ratiofile.specs.File.{lineIn, firstLine, secondLine, thirdLine, fileFormed, fileOf, notFormed, fileIn}
 
 -- ---- lengths
 
