@@ -30,7 +30,7 @@ same-length-2 c = search needs
 
 -- src/lib.rt:33:9
 returns : tie.Need-returns
-returns c = 
+returns c =
     let a = c .before .before .before .before .before .before .before .args in
     open-refused (memory (now (a .register)) (now (a .book)) (now (a .places))) (c .before .refusal-of-opening .result) (c .before .refusal-of-opening .ensures) (c .if1 .taken)
 
@@ -72,7 +72,7 @@ same-length-4 c = search needs
 
 -- src/lib.rt:26:1
 returns-2 : tie.Need-returns-2
-returns-2 c = 
+returns-2 c =
     let a = c .before .before .before .before .before .before .before .before .before .before .before .before .before .before .before .before .before .before .before .before .before .before .args in
     open-done (memory (now (a .register)) (now (a .book)) (now (a .places)))
     (c .before .before .before .before .before .before .before .before .before .before .before .before .before .before .before .before .refusal-of-opening .result) _ _ _ (c .before .before .before .before .before .before .before .before .before .before .before .before .before .before .before .before .refusal-of-opening .ensures) (c .before .before .before .before .before .before .before .before .before .before .before .before .before .before .before .if1 .left) (c .before .before .before .old .ensures) (c .before .before .put-ratios .ensures ∙ ap (λ (z : List ℕ). putRatios z (c .before .before .before .old .result)) (c .before .before .before .before .before .before .before .store32 .ensures)) (c .before .before .before .before .before .before .before .before .before .before .before .before .store .ensures)

@@ -30,7 +30,7 @@ same-length c = search needs
 -- src/lib.rt:62:9
 returns : tie.Need-returns
 unfolding loadAfter
-returns c = 
+returns c =
     let a = c .before .before .before .before .before .args in
     let rs = now (a .register) in
     refused-step _ _ (loadRefusal rs (a .file)) 0 (putRatios rs (loaded (a .file))) rs (c .refused-by .ensures) (c .before .before .refusal-of-load .ensures) (c .before .if1 .taken)
@@ -54,7 +54,7 @@ same-length-2 c = search needs
 -- src/lib.rt:57:1
 returns-2 : tie.Need-returns-2
 unfolding loadAfter
-returns-2 c = 
+returns-2 c =
     let a = c .before .before .before .before .before .before .before .before .before .before .args in
     let rs = now (a .register) in
     accepted-step _ _ (loadRefusal rs (a .file)) 0 _ (putRatios rs (loaded (a .file))) rs (c .accepted-as .ensures) (c .before .before .before .before .before .before .before .refusal-of-load .ensures) (c .before .before .before .before .before .before .if1 .left)
