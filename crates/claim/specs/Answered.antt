@@ -3,6 +3,7 @@
 -- sound, and by 1, which is smaller, where it is not.
 use Prim.Native.Nat.{ℕ, zero, suc, _+_, _*_, _-_}
 use mathlib.Core.Path.{_≡_, refl}
+use mathlib.Core.Bool.{true}
 use mathlib.Core.List.{List, [], _∷_, _++_}
 use lib.ListN.{replicate, set}
 use Rattle.rules.specs.Money.{mils, millions, milsOf}
@@ -22,13 +23,17 @@ use Rattle.register.specs.Layout.{atCode, atClass, atMaximum, atOwn, atHolder, 
 use Rattle.register.specs.Check.{recordOk, registerOk}
 use Rattle.quota.specs.Asks.{isSound, groupsEnrolled}
 use Rattle.quota.specs.Groups.{declaredGroup, raisedGroup, filedGroup, ownGroup, closedGroup}
-use Rattle.quota.specs.Calls.{enrolRefusal, enrolAnswer, enrolAfter, attachRefusal, attachAfter, detachRefusal, detachAfter, regularRefusal, regularAfter, raiseRefusal, raiseAfter, withdrawRefusal, withdrawAfter, ownQuotaRefusal, ownQuotaAfter, closedAt, closedBelow, closeRefusal, closeAfter}
+use Rattle.quota.specs.Calls.{enrolRefusal, enrolAnswer, enrolAfter, attachRefusal, attachAfter, detachRefusal, detachAfter, regularRefusal, regularAfter, raiseRefusal, raiseAfter, withdrawRefusal, withdrawAfter, ownQuotaRefusal, ownQuotaAfter, closedAt, closedBelow, closeRefusal, closeAfter, loadRefusal, loadAfter}
+use Rattle.rules.specs.Loads.{loadRules}
+use Rattle.rules.specs.declared.loads.RatioLine.{RatioLine}
+use Rattle.rules.specs.declared.loads.RatioFile.{RatioFile}
+use Rattle.history.specs.Runs.{Loaded}
 use Rattle.book.specs.Layout.{moneyBase, placeBase, putAccepted, moneyAt, putMoney, placeAt, putPlace, putOpen, bookLength}
 use Rattle.book.specs.Check.{bookOk, placeOk}
 use Rattle.orders.specs.Host.{hostOk, namedOk}
 use Rattle.orders.specs.Booking.{moneyFits, bookedOrder, bookedFill, bookedCancel}
 use Rattle.orders.specs.Calls.{orderRefusal, orderAnswer, orderBook, orderPlaces, fillRefusal, fillBook, fillPlaces, cancelRefusal, cancelBook, cancelPlaces, closedBook}
-use Rattle.claim.specs.Step.{Memory, memory, bookSound, step}
+use Rattle.claim.specs.Step.{Memory, memory, bookSound, step, stepEntry}
 use Rattle.claim.specs.Opening.{openRefusal, openRegister, openBook}
 use Rattle.claim.specs.Demand.{run, opened}
 
@@ -128,6 +133,19 @@ Opens r b p n = openRefusal (memory (replicate r 7) (replicate b 7) (replicate p
 
 -- ---- the table
 
+-- what a load answers in such a memory: a table in range, and one with a numerator of 101
+abbrev ratioLine : ℕ → ℕ → RatioLine
+ratioLine class numerator = record { class = class; numerator = numerator; denominator = 1 }
+
+abbrev good : RatioFile
+good = record { formed = true; first = ratioLine 1 7; second = ratioLine 3 7; third = ratioLine 4 7 }
+
+abbrev bad : RatioFile
+bad = record { formed = true; first = ratioLine 1 7; second = ratioLine 3 7; third = ratioLine 4 101 }
+
+abbrev loadedInto : List ℕ → List ℕ → RatioFile → ℕ
+loadedInto rs bs f = (stepEntry shanghai (memory rs bs places) (Loaded f)) .answer .refusal
+
 pub record Answered : Type 0 where
   -- "The host lends N order places, 1 to 65,536", four words each (Money and names)
   pub openings : Opens registerLength bookLength 0 1 × Opens registerLength bookLength 4 0 × Opens registerLength bookLength 8_192 0
@@ -199,6 +217,31 @@ pub record Answered : Type 0 where
       ∷ groupOfUnit 0 holds 64 ⇒ 1
       ∷ unitOf 1 holds 100_000 ⇒ 2
       ∷ [])
+  -- "numerator and denominator (both 1 to 100)" (2026-01): each of the six words of the ratios, though no call reads it; the eight words behind are free
+  pub register-ratios : InRegister (
+      2 holds 0 ⇒ 1
+      ∷ 2 holds 1 ⇒ 2
+      ∷ 2 holds 100 ⇒ 2
+      ∷ 2 holds 101 ⇒ 1
+      ∷ 3 holds 0 ⇒ 1
+      ∷ 3 holds 101 ⇒ 1
+      ∷ 4 holds 0 ⇒ 1
+      ∷ 4 holds 101 ⇒ 1
+      ∷ 5 holds 0 ⇒ 1
+      ∷ 5 holds 101 ⇒ 1
+      ∷ 6 holds 0 ⇒ 1
+      ∷ 6 holds 101 ⇒ 1
+      ∷ 7 holds 0 ⇒ 1
+      ∷ 7 holds 1 ⇒ 2
+      ∷ 7 holds 100 ⇒ 2
+      ∷ 7 holds 101 ⇒ 1
+      ∷ 8 holds 101 ⇒ 2
+      ∷ 15 holds 101 ⇒ 2
+      ∷ [])
+  -- a load: 1 before 2 and 23, for a figure of the register, of the book and for N; a sound gate with groups enrolled answers 23, or 2 for a number out of range
+  pub loads : (loadedInto register book good ≡ 23) × (loadedInto register book bad ≡ 2)
+      × (loadedInto (set register (wordOf 1 atClass) 5) book good ≡ 1) × (loadedInto (set register 2 0) book bad ≡ 1)
+      × (loadedInto register (set book 1 5) good ≡ 1) × (loadedInto register (set book 0 3) bad ≡ 1)
   -- "N .. other than at opening"; "orders accepted 0 to N" (Refusal list; Money and names)
   pub book-numbers : InBook (cancel 0) (
       0 holds 0 ⇒ 1
@@ -300,7 +343,7 @@ pub record Answered : Type 0 where
   pub book-spoilt : AllAre 1 register (set book 1 5)
 
 pub answered : Answered
-unfolding expected registerAsked bookAsked placesAsked elevenAsked step run openRefusal openRegister openBook bookSound isSound
+unfolding expected registerAsked bookAsked placesAsked elevenAsked step stepEntry loadRefusal loadAfter loadRules run openRefusal openRegister openBook bookSound isSound
     groupsEnrolled hostOk namedOk bookOk placeOk recordOk registerOk allBelow enrolRefusal enrolAnswer enrolAfter attachRefusal attachAfter
     detachRefusal detachAfter regularRefusal regularAfter raiseRefusal raiseAfter withdrawRefusal withdrawAfter ownQuotaRefusal
     ownQuotaAfter closedAt closedBelow closeRefusal closeAfter declaredGroup raisedGroup filedGroup ownGroup closedGroup figuresOf groupOf
@@ -319,6 +362,8 @@ answered = record {
   register-holder = refl;
   register-figures = refl;
   register-units = refl;
+  register-ratios = refl;
+  loads = (refl, refl, refl, refl, refl, refl);
   book-numbers = refl;
   book-totals = refl;
   place-named = refl;

@@ -20,7 +20,9 @@ use Rattle.rules.specs.declared.calls.Call.{Call}
 use Rattle.rules.specs.declared.calls.Call.the-variants.{Enrol, Attach, Detach, Regular, Raise, Withdraw, OwnQuota, Order, Fill, Cancel, Close}
 use Rattle.rules.specs.declared.calls.Answer.{Answer}
 use Rattle.quota.specs.Asks.{groupsEnrolled, groupOfUnit}
-use Rattle.quota.specs.Calls.{enrolRefusal, enrolAfter, attachRefusal, attachAfter, detachRefusal, detachAfter, regularRefusal, regularAfter, raiseRefusal, raiseAfter, withdrawRefusal, withdrawAfter, ownQuotaRefusal, ownQuotaAfter, closeRefusal}
+use Rattle.quota.specs.Calls.{enrolRefusal, enrolAfter, attachRefusal, attachAfter, detachRefusal, detachAfter, regularRefusal, regularAfter, raiseRefusal, raiseAfter, withdrawRefusal, withdrawAfter, ownQuotaRefusal, ownQuotaAfter, closeRefusal, loadRefusal, loadAfter}
+use Rattle.history.specs.Runs.{Entry, Called, Loaded}
+use Rattle.rules.specs.declared.loads.RatioFile.{RatioFile}
 use Rattle.book.specs.declared.places.Place.{Place}
 use Rattle.book.specs.Layout.{acceptedOf, noMoney, moneyAt, putMoney, placeBase, placeAt, putPlace, putOpen, placeWords}
 use Rattle.book.specs.Check.{bookOk}
@@ -32,9 +34,9 @@ use Rattle.orders.specs.Clear.{PlaceClear}
 use Rattle.orders.specs.Booking.{filledMoney, cancelledMoney}
 use Rattle.orders.specs.Calls.{orderRefusal, orderAnswer, orderBook, orderPlaces, fillRefusal, fillBook, fillPlaces, cancelRefusal, cancelBook, cancelPlaces, closedBook, fillBooked, cancelBooked}
 use Rattle.orders.specs.Kept.{order-refused, order-accepted, order-kept, fill-refused, fill-accepted, fill-kept, cancel-refused, cancel-accepted, cancel-kept}
-use Rattle.claim.specs.Step.{Memory, Stepped, memory, bookSound, onRegister, enrolledBook, enrolling, closingSound, step}
+use Rattle.claim.specs.Step.{Memory, Stepped, memory, bookSound, onRegister, enrolledBook, enrolling, closingSound, step, stepEntry}
 use Rattle.claim.specs.Opening.{openRefusal, freshBook, openRegister, openBook}
-use Rattle.claim.specs.Demand.{run, answersOf, opened}
+use Rattle.claim.specs.Demand.{runAll, answersOfAll, opened}
 
 -- ---- the claims
 
@@ -49,10 +51,10 @@ pub record Alike (s t : Stepped) : Type 0 where
   pub answer : s .answer ≡ t .answer
   pub left : SameGiven (s .memory) (t .memory)
 
--- over a list of calls
-pub record RunsAlike (rule : Rule) (m n : Memory) (cs : List Call) : Type 0 where
-  pub answers : answersOf rule m cs ≡ answersOf rule n cs
-  pub left : SameGiven (run rule m cs) (run rule n cs)
+-- over a list of calls and loads
+pub record RunsAlike (rule : Rule) (m n : Memory) (es : List Entry) : Type 0 where
+  pub answers : answersOfAll rule m es ≡ answersOfAll rule n es
+  pub left : SameGiven (runAll rule m es) (runAll rule n es)
 
 -- a word of the places that a call does not write: an order writes the next place, a fill or a cancel its order's open quantity
 abbrev pub Unwritten : Memory → Call → ℕ → Type 0
@@ -281,22 +283,28 @@ module _ (rs bs ps qs : List ℕ) (a : AlikeBelow (acceptedOf bs) ps qs) where
   step-alike rule (Cancel order) = cancel-alike rule order
   step-alike rule Close = close-alike
 
+  entry-alike : (rule : Rule) (e : Entry) → Alike (stepEntry rule (memory rs bs ps) e) (stepEntry rule (memory rs bs qs) e)
+  unfolding stepEntry
+  entry-alike rule (Called c) = step-alike rule c
+  entry-alike rule (Loaded f) = on-register (answered (loadRefusal rs f)) (loadAfter rs f)
+
 -- ---- the claims hold
 
 -- "Places above the last number given may hold anything and decide no answer": one call, in every memory (How firmly each call is bound)
-pub step-unused : (rule : Rule) (m n : Memory) → SameGiven m n → (c : Call) → Alike (step rule m c) (step rule n c)
-step-unused rule m n s c =
-    subst (λ (rs : List ℕ). Alike (step rule m c) (step rule (memory rs (n .book) (n .places)) c)) (s .register)
-    (subst (λ (bs : List ℕ). Alike (step rule m c) (step rule (memory (m .register) bs (n .places)) c)) (s .book)
-    (step-alike (m .register) (m .book) (m .places) (n .places) (s .places) rule c))
+-- or load
+pub entry-unused : (rule : Rule) (m n : Memory) → SameGiven m n → (e : Entry) → Alike (stepEntry rule m e) (stepEntry rule n e)
+entry-unused rule m n s e =
+    subst (λ (rs : List ℕ). Alike (stepEntry rule m e) (stepEntry rule (memory rs (n .book) (n .places)) e)) (s .register)
+    (subst (λ (bs : List ℕ). Alike (stepEntry rule m e) (stepEntry rule (memory (m .register) bs (n .places)) e)) (s .book)
+    (entry-alike (m .register) (m .book) (m .places) (n .places) (s .places) rule e))
 
--- and every list of calls
-pub run-unused : (rule : Rule) (cs : List Call) (m n : Memory) → SameGiven m n → RunsAlike rule m n cs
-unfolding run answersOf
+-- and every list of calls and loads
+pub run-unused : (rule : Rule) (es : List Entry) (m n : Memory) → SameGiven m n → RunsAlike rule m n es
+unfolding runAll answersOfAll
 run-unused rule [] m n s = record { answers = refl; left = s }
-run-unused rule (c ∷ cs) m n s =
-    let t = step-unused rule m n s c in
-    let u = run-unused rule cs ((step rule m c) .memory) ((step rule n c) .memory) (t .left) in
+run-unused rule (e ∷ es) m n s =
+    let t = entry-unused rule m n s e in
+    let u = run-unused rule es ((stepEntry rule m e) .memory) ((stepEntry rule n e) .memory) (t .left) in
     record { answers = rw (t .answer, u .answers); left = u .left }
 
 -- gates that were opened over as many places, of any contents
@@ -367,6 +375,11 @@ places-kept rule m (Cancel order) =
     let o = open-kept (cancelRefusal (m .register) (m .book) (m .places) order) order 0 (m .places) in
     record { lengths = o .0; words = o .1 }
 places-kept rule m Close = all-kept (close-kept m)
+
+-- a load writes the register alone
+pub load-keeps : (rule : Rule) (m : Memory) (f : RatioFile) → ((stepEntry rule m (Loaded f)) .memory .book ≡ m .book) × ((stepEntry rule m (Loaded f)) .memory .places ≡ m .places)
+unfolding stepEntry
+load-keeps rule m f = (split (bookSound m) (λ e. rw e) (λ e. rw e), quota-kept m (answered (loadRefusal (m .register) f)) (loadAfter (m .register) f))
 
 -- a fill or a cancel that is not refused names a number that was given
 fill-unused : (rule : Rule) (m : Memory) (k : ℕ) (price : Mils) (quantity i : ℕ) → placeWords * acceptedOf (m .book) ≤ i → getD ((step rule m (Fill k price quantity)) .memory .places) i 0 ≡ getD (m .places) i 0

@@ -22,7 +22,7 @@ use Rattle.claim.specs.Step.{Memory, Stepped, step}
 use Rattle.callfile.specs.Lines.{readLine, answerText, answerFits, answerPut, callBytes}
 use Rattle.callfile.specs.declared.reading.Line.{Line}
 use Rattle.day.specs.declared.Progress.{Progress}
-use Rattle.day.specs.Day.{lineStep, heldTo, printed, lineLength, isWhole, firstLine, behindLine, Told, noneTold, before, told, toldIn, Answered, restText, keptBytes}
+use Rattle.day.specs.Day.{lineStep, heldTo, printed, lineLength, isWhole, firstLine, behindLine, Told, noneTold, before, told, toldIn, Answered, restText, fileStep, fileText, LoadAnswered, keptBytes}
 
 -- ---- one line
 
@@ -324,6 +324,24 @@ module _ (rest : ℕ) (out : List ℕ) where
   rest-printed a out′ h l e p =
       rw (le-leb 1 rest h, le-leb 10 (length out) l)
       (sym (length-printed (refused MALFORMED)), p ∙ ap (λ (x : Answer). paste out 0 (printed x) 10) e ∙ ap (λ (x : ℕ). paste out 0 (printed (refused MALFORMED)) x) (sym (length-printed (refused MALFORMED))))
+
+-- ---- a file of ratios
+
+module _ (m : Memory) (file out : List ℕ) where
+  pub load-short : (m′ : Memory) → length out < 10 → m′ ≡ (fileStep m file) .memory → LoadAnswered m file out 0 m′ out
+  unfolding fileText
+  load-short m′ l e = record { bytes = rw (lt-leb 10 (length out) l) refl; memory = e; buffer = rw (lt-leb 10 (length out) l) (sym (paste-zero out 0 [])) }
+
+  pub load-printed : (m′ : Memory) (a : Answer) (out′ : List ℕ) → 10 ≤ length out → a ≡ (fileStep m file) .answer → m′ ≡ (fileStep m file) .memory → out′ ≡ paste out 0 (printed a) 10
+      → LoadAnswered m file out 10 m′ out′
+  unfolding fileText
+  load-printed m′ a out′ l e q p =
+      let n = length-printed ((fileStep m file) .answer) in
+      record {
+        bytes = rw (le-leb 10 (length out) l) (sym n);
+        memory = q;
+        buffer = rw (le-leb 10 (length out) l) (p ∙ ap (λ (x : Answer). paste out 0 (printed x) 10) e ∙ ap (λ (x : ℕ). paste out 0 (printed ((fileStep m file) .answer)) x) (sym n));
+      }
 
 -- ---- what is kept for the next reading
 

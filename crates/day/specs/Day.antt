@@ -13,7 +13,9 @@ use Rattle.rules.specs.Orders.{shanghai}
 use Rattle.rules.specs.Calls.{refused}
 use Rattle.rules.specs.Refusals.{MALFORMED}
 use Rattle.rules.specs.declared.calls.Answer.{Answer}
-use Rattle.claim.specs.Step.{Memory, Stepped, step}
+use Rattle.history.specs.Runs.{Loaded}
+use Rattle.claim.specs.Step.{Memory, Stepped, step, stepEntry}
+use Rattle.ratiofile.specs.File.{fileIn}
 use Rattle.day.specs.declared.Progress.{Progress}
 use Rattle.callfile.specs.Lines.{readLine, answerText, callBytes}
 
@@ -79,6 +81,20 @@ pub record Answered (r : Told) (out : List ℕ) (p : Progress) (m : Memory) (out
 -- "or a last one without line feed, prints 21 with 0": where bytes are left over, and the buffer has ten (Lines and columns)
 unfoldable pub restText : ℕ → List ℕ → List ℕ
 restText rest out = pick (leb 1 rest && leb 10 (length out)) (printed (refused MALFORMED)) []
+
+-- a file of ratios by its text: its answer and the memory after it (2026-01)
+abbrev pub fileStep : Memory → List ℕ → Stepped
+fileStep m file = stepEntry shanghai m (Loaded (fileIn file))
+
+-- what is printed for it, where the buffer has ten bytes
+unfoldable pub fileText : Memory → List ℕ → List ℕ → List ℕ
+fileText m file out = pick (leb 10 (length out)) (printed ((fileStep m file) .answer)) []
+
+-- what the function over a file's text and a buffer leaves: bytes written, the memory, and every byte of the buffer
+pub record LoadAnswered (m : Memory) (file out : List ℕ) (written : ℕ) (m′ : Memory) (out′ : List ℕ) : Type 0 where
+  pub bytes : written ≡ length (fileText m file out)
+  pub memory : m′ ≡ (fileStep m file) .memory
+  pub buffer : out′ ≡ paste out 0 (fileText m file out) (length (fileText m file out))
 
 -- how many bytes of an unfinished line are kept for the next reading: all, or thirty-nine, which are too many for a call line already
 unfoldable pub keptBytes : ℕ → ℕ → ℕ → ℕ

@@ -8,7 +8,7 @@ use Rattle.rules.specs.Tests.{pick}
 use Rattle.rules.specs.Calls.{refused}
 use Rattle.rules.specs.Refusals.{MALFORMED}
 use Rattle.claim.specs.Step.{Memory}
-use Rattle.day.specs.Day.{printed, Told, told}
+use Rattle.day.specs.Day.{printed, fileStep, Told, told}
 use Rattle.callfile.specs.Lines.{callBytes}
 
 -- ---- the whole input
@@ -37,6 +37,10 @@ day m t = record { text = (toldAll m t) .text ++ lastText (behindLast m t); memo
 -- "and at the end the listing": of the memory that the last call left (Lines and columns)
 abbrev pub dayText : (Memory → List ℕ) → Memory → List ℕ → List ℕ
 dayText listing m t = (day m t) .text ++ listing ((day m t) .memory)
+
+-- with a file of ratios: the load's answer first, and then the day of the gate that it leaves (2026-01)
+abbrev pub ratiosText : (Memory → List ℕ) → Memory → List ℕ → List ℕ → List ℕ
+ratiosText listing m file t = printed ((fileStep m file) .answer) ++ dayText listing ((fileStep m file) .memory) t
 
 -- ---- the input in pieces: the whole lines of what was kept and of the piece behind it are answered, and of what is left then thirty-nine
 -- bytes at most are kept

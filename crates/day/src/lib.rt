@@ -5,12 +5,13 @@ ghost use Prim.Native.Nat.{_+_, _-_, _≤_, min};
 ghost use lib.ListN.{length, take, drop};
 ghost use lib.Seq.{paste};
 ghost use Rattle.claim.specs.Step.{memory};
-ghost use Rattle.day.specs.Day.{lineStep, printed, lineLength, toldIn, Answered, restText, keptBytes};
+ghost use Rattle.day.specs.Day.{lineStep, printed, lineLength, toldIn, Answered, restText, LoadAnswered, keptBytes};
 use callfile::layout::ANSWER_BYTES;
 use callfile::layout::LINE_BYTES;
 use callfile_lines::reading::read_line;
 use callfile_lines::writing::put_answer;
 use gate_call::calls::call;
+use gate_load::load;
 use rules::calls::Answer;
 use rules::calls::refused_by;
 use rules::limits::smaller;
@@ -160,6 +161,24 @@ pub fn answer_rest(rest: usize, out: &mut [u8]) -> usize
         return 0;
     }
     put_printed(out, 0, refused_by(MALFORMED));
+    ANSWER_BYTES
+}
+
+// The text of a file of ratios loaded (2026-01), and its answer at the start of the buffer. Answers how many bytes were written.
+pub fn answer_load(
+    register: &mut [u32],
+    book: &[u64],
+    places: &[u64],
+    file: &[u8],
+    out: &mut [u8],
+) -> usize
+    ensures { λ r. ⌜ LoadAnswered (memory (now (register .entry)) (now (book .entry)) (now (places .entry))) (now (file .entry)) (now (out .entry)) r (memory (now (register .exit)) (now (book .entry)) (now (places .entry))) (now (out .exit)) ⌝ }
+{
+    let answer = load(register, book, places, file);
+    if out.len() < ANSWER_BYTES {
+        return 0;
+    }
+    put_printed(out, 0, answer);
     ANSWER_BYTES
 }
 

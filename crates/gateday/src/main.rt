@@ -1,4 +1,5 @@
-// gateday: call lines from standard input, an answer for each on standard output, and at the end the listing. N is 2,048.
+// gateday: call lines from standard input, an answer for each on standard output, and at the end the listing. N is 2,048. `gateday --ratios FILE` loads a file of
+// ratios first and prints its answer before all others (2026-01); with any other arguments nothing is read or printed.
 // What is answered and listed is decided in `day` and `gate_listing`; here is only reading and writing.
 ghost use mathlib.Core.Path.{_≡_};
 ghost use Prim.Native.Nat.{_+_, _≤_};
@@ -8,13 +9,16 @@ ghost use Rattle.day.specs.Day.{toldIn};
 ghost use Rattle.day.specs.Pieces.{Done};
 use book::layout::BOOK;
 use book::layout::PLACE_WORDS;
+use columns::bytes::same_at;
 use day::answer_lines;
+use day::answer_load;
 use day::answer_rest;
 use day::keep_rest;
 use gate_listing::write;
 use gate_open::open;
 use listing::lines::ROW;
 use quota::asks::groups_enrolled;
+use ratiofile::layout::FILE_BYTES;
 use register::layout::REGISTER;
 
 // "Program `gateday` has N = 2,048": so many places, in words. (Lines and columns)
@@ -118,6 +122,72 @@ fn print_day(
     }
 }
 
+// One byte more than a file of ratios has: a file that fills it is none, whatever follows.
+const MOST_RATIOS: usize = FILE_BYTES + 1;
+
+// One read of a file into the text behind its first `filled` bytes. Answers how many bytes the text then has: no more than before at the file's end, and all of
+// them where the read failed, since what can't be read is no file of ratios.
+fn read_file_behind(file: i32, text: &mut [u8], filled: usize) -> usize
+    requires { ⌜ filled ≤ length (now text) ⌝ }
+    ensures { λ r. ⌜ (filled ≤ r) × (r ≤ length (now (text .entry))) ⌝ }
+{
+    let room = text.len();
+    let got = libc::read(file, &mut text[filled..room]);
+    if got < 0 {
+        return room;
+    }
+    let came = io::count(got, &text[filled..room]);
+    filled + came
+}
+
+// The file's bytes, as many as there is room for. Answers how many.
+fn read_ratios(file: i32, text: &mut [u8]) -> usize
+    ensures { λ r. ⌜ r ≤ length (now (text .entry)) ⌝ }
+{
+    let mut filled: usize = 0;
+    while filled < text.len() {
+        let held = read_file_behind(file, text, filled);
+        if held <= filled {
+            return filled;
+        }
+        filled = held;
+    }
+    filled
+}
+
+// The text of the file that the second argument names; no bytes where it can't be opened.
+fn ratios_named(text: &mut [u8]) -> usize
+    ensures { λ r. ⌜ r ≤ length (now (text .entry)) ⌝ }
+{
+    let mut path = io::buffer();
+    let n = os::arg(2, &mut path);
+    if path.len() < n {
+        return 0;
+    }
+    let file = os::open_read(&path[0..n]);
+    if file < 0 {
+        return 0;
+    }
+    let held = read_ratios(file, text);
+    libc::close(file);
+    held
+}
+
+// The file of ratios loaded, and its answer printed.
+fn print_load(register: &mut [u32], book: &[u64], places: &[u64], out: &mut [u8]) {
+    let mut text = [0u8; MOST_RATIOS];
+    let n = ratios_named(&mut text);
+    let written = answer_load(register, book, places, &text[0..n], out);
+    print(out, written);
+}
+
+// The arguments are `--ratios FILE`.
+fn ratios_asked() -> bool {
+    let mut word = [0u8; 16];
+    let n = os::arg(1, &mut word);
+    (os::arg_count() == 3) & ((n == 8) & same_at(&word, 0, b"--ratios"))
+}
+
 fn main() {
     let mut register = [0u32; REGISTER];
     let mut book = [0u64; BOOK];
@@ -125,5 +195,11 @@ fn main() {
     let mut input = io::large_buffer();
     let mut out = [0u8; 65530];
     open(&mut register, &mut book, &places);
+    if 1 < os::arg_count() {
+        if !ratios_asked() {
+            return;
+        }
+        print_load(&mut register, &book, &places, &mut out);
+    }
     print_day(&mut register, &mut book, &mut places, &mut input, &mut out);
 }

@@ -1,6 +1,6 @@
 -- What a router may count on at every call, whatever its memory holds, damaged or not: a refusal returns its number alone and leaves all
 -- memory as it was; memory with a figure out of its range is answered by 1; and a code that is no call's is refused by 2.
--- `step` is the definition that the contract of `ekhurtza_call` names. Assumes nothing.
+-- `step` is the definition that the contract of `ekhurtza_call` names, `stepEntry` that of `ekhurtza_load`. Assumes nothing.
 use Prim.Native.Nat.{ℕ, zero, suc, _+_, _-_, _*_, _≤_}
 use mathlib.Core.Path.{_≡_, refl, sym, _∙_}
 use mathlib.Core.Logic.{_≢_}
@@ -20,12 +20,12 @@ use Rattle.rules.specs.declared.calls.Answer.{Answer}
 use Rattle.rules.specs.declared.money.Mils.{Mils}
 use Rattle.rules.specs.declared.calls.Call.{Call}
 use Rattle.rules.specs.declared.calls.Call.the-variants.{Enrol, Attach, Detach, Regular, Raise, Withdraw, OwnQuota, Order, Fill, Cancel, Close}
-use Rattle.register.specs.Layout.{groupCount, groupAt, putGroup, addGroup, unitsOf, addUnit, removeUnit}
+use Rattle.register.specs.Layout.{ratiosOf, putRatios, groupCount, groupAt, putGroup, addGroup, unitsOf, addUnit, removeUnit}
 use Rattle.register.specs.Check.{registerOk}
 use Rattle.quota.specs.Asks.{isSound, groupsEnrolled, groupOfUnit}
 use Rattle.quota.specs.Groups.{freshGroup, declaredGroup, raisedGroup, filedGroup, ownGroup}
 use Rattle.quota.specs.Reads.{enrolReads, attachReads, groupReads, figureReads}
-use Rattle.quota.specs.Calls.{enrolRefusal, enrolAnswer, enrolAfter, attachRefusal, attachAfter, detachRefusal, detachAfter, regularRefusal, regularAfter, raiseRefusal, raiseAfter, withdrawRefusal, withdrawAfter, ownQuotaRefusal, ownQuotaAfter, closeRefusal, closeAfter}
+use Rattle.quota.specs.Calls.{enrolRefusal, enrolAnswer, enrolAfter, attachRefusal, attachAfter, detachRefusal, detachAfter, regularRefusal, regularAfter, raiseRefusal, raiseAfter, withdrawRefusal, withdrawAfter, ownQuotaRefusal, ownQuotaAfter, closeRefusal, closeAfter, loadRefusal, loadAfter}
 use Rattle.book.specs.Layout.{acceptedOf, noMoney, placeAt, putAccepted, putMoney, putPlace, putOpen}
 use Rattle.book.specs.Check.{bookOk}
 use Rattle.orders.specs.Host.{hostOk, namedOk}
@@ -35,7 +35,10 @@ use Rattle.rows.specs.Row.{rowRefusal, rowOf}
 use Rattle.listing.specs.Text.{listingKept, rowBytes}
 use Rattle.gate_listing.specs.Listed.{gateRows, listRefusal}
 use Rattle.router.specs.Handed.{handedRefusal}
-use Rattle.claim.specs.Step.{Memory, Stepped, memory, bookSound, enrolledBook, step}
+use Rattle.claim.specs.Step.{Memory, Stepped, memory, bookSound, enrolledBook, step, stepEntry}
+use Rattle.rules.specs.Loads.{loadRules, loaded}
+use Rattle.rules.specs.declared.loads.RatioFile.{RatioFile}
+use Rattle.history.specs.Runs.{Loaded}
 
 -- "A refusal returns its number alone; gate, places and buffers keep their contents." (Refusal list)
 abbrev pub Alone : Memory → Stepped → Type 0
@@ -148,7 +151,7 @@ unfolding step hostOk isSound bookSound enrolRefusal enrolAnswer attachRefusal d
 always-hurt m (Enrol code class) e = hurt-enrol m (registerOk (m .register)) (bookOk (m .book) (m .places) (groupsEnrolled (m .register))) (enrolRules code class (enrolReads (m .register) code class)) (groupCount (m .register)) (enrolAfter (m .register) code class) (enrolledBook (m .register) (m .book) code class) e
 always-hurt m (Attach unit group) e = hurt-register m (registerOk (m .register)) (bookOk (m .book) (m .places) (groupsEnrolled (m .register))) (attachRules unit group (attachReads (m .register) unit group)) 0 (attachAfter (m .register) unit group) e
 always-hurt m (Detach unit) e = hurt-register m (registerOk (m .register)) (bookOk (m .book) (m .places) (groupsEnrolled (m .register))) (detachRules unit (isThere (find unit (unitsOf (m .register))))) 0 (detachAfter (m .register) unit) e
-always-hurt m (Regular declarer group base quota) e = hurt-register m (registerOk (m .register)) (bookOk (m .book) (m .places) (groupsEnrolled (m .register))) (regularRules declarer group base quota (groupReads (m .register) group) (figureReads (m .register) group declarer)) 0 (regularAfter (m .register) declarer group base quota) e
+always-hurt m (Regular declarer group base quota) e = hurt-register m (registerOk (m .register)) (bookOk (m .book) (m .places) (groupsEnrolled (m .register))) (regularRules (ratiosOf (m .register)) declarer group base quota (groupReads (m .register) group) (figureReads (m .register) group declarer)) 0 (regularAfter (m .register) declarer group base quota) e
 always-hurt m (Raise declarer group quota flag) e = hurt-register m (registerOk (m .register)) (bookOk (m .book) (m .places) (groupsEnrolled (m .register))) (raiseRules declarer group quota flag (groupReads (m .register) group)) 0 (raiseAfter (m .register) declarer group quota flag) e
 always-hurt m (Withdraw declarer group) e = hurt-register m (registerOk (m .register)) (bookOk (m .book) (m .places) (groupsEnrolled (m .register))) (withdrawRules declarer group (groupReads (m .register) group)) 0 (withdrawAfter (m .register) declarer group) e
 always-hurt m (OwnQuota group quota) e = hurt-register m (registerOk (m .register)) (bookOk (m .book) (m .places) (groupsEnrolled (m .register))) (ownQuotaRules group quota (groupReads (m .register) group)) 0 (ownQuotaAfter (m .register) group quota) e
@@ -162,6 +165,18 @@ always-hurt m Close e = hurt-close m (registerOk (m .register)) (bookOk (m .book
 
 pub safe : (m : Memory) (c : Call) → Safe m c
 safe m c = record { alone = always-alone m c; damaged = always-hurt m c }
+
+-- the same of a load (2026-01)
+pub record LoadSafe (m : Memory) (f : RatioFile) : Type 0 where
+  pub alone : Alone m (stepEntry shanghai m (Loaded f))
+  pub damaged : isWhole m ≡ false → refusalIn (stepEntry shanghai m (Loaded f)) ≡ UNSOUND
+
+pub load-safe : (m : Memory) (f : RatioFile) → LoadSafe m f
+unfolding stepEntry hostOk isSound bookSound loadRefusal loadAfter
+load-safe m f = record {
+  alone = alone-register m (bookSound m) (loadRefusal (m .register) f) 0 (putRatios (m .register) (loaded f));
+  damaged = λ e. hurt-register m (registerOk (m .register)) (bookOk (m .book) (m .places) (groupsEnrolled (m .register))) (loadRules f (ltb 0 (groupCount (m .register)))) 0 (loadAfter (m .register) f) e;
+}
 
 -- the same of a fill and a cancel, where a figure in the place of the order that they name is out of its range
 

@@ -1,6 +1,6 @@
-// The gate for order routers: seven functions over memory that the router lends, thin over the proved layers below. Each takes
+// The gate for order routers: eight functions over memory that the router lends, thin over the proved layers below. Each takes
 // memory of any content and any length; docs/EMBEDDING.md says how large it should be and what the caller owes. What a router may count on
-// beyond the seven contracts is proved in specs/: Safe.antt, Rows.antt, RoomLaws.antt, TextLaws.antt and LineLaws.antt.
+// beyond the eight contracts is proved in specs/: Safe.antt, Rows.antt, RoomLaws.antt, TextLaws.antt and LineLaws.antt.
 pub mod puts; // rows and rooms put into lent words
 
 ghost use mathlib.Core.Path.{_≡_};
@@ -8,7 +8,9 @@ ghost use lib.ListN.{length};
 ghost use Rattle.rules.specs.Codes.{callOf};
 ghost use Rattle.rules.specs.Orders.{shanghai};
 ghost use Rattle.claim.specs.Opening.{openRefusal, openRegister, openBook};
-ghost use Rattle.claim.specs.Step.{memory, step};
+ghost use Rattle.history.specs.Runs.{Loaded};
+ghost use Rattle.claim.specs.Step.{memory, step, stepEntry};
+ghost use Rattle.ratiofile.specs.File.{fileIn};
 ghost use Rattle.gate_listing.specs.Listed.{listRefusal, listed};
 ghost use Rattle.router.specs.Handed.{listedBytes, handedRefusal, handedRow};
 ghost use Rattle.router.specs.Rooms.{leftRefusal, roomRefusal, roomPut};
@@ -22,6 +24,7 @@ use callfile::words::words_of;
 use callfile_lines::writing::put_call;
 use gate_call::calls::call;
 use gate_listing::write;
+use gate_load::load;
 use gate_open::open;
 use listing::lines::ROW;
 use listing_text::refusal_of_text;
@@ -86,6 +89,16 @@ pub extern "C" fn ekhurtza_call(
         refusal: answer.refusal,
         number: answer.number,
     }
+}
+
+// A file of ratios by its text (2026-01): 1, 2 or 23, or 0 and the register has its table.
+#[no_mangle]
+pub extern "C" fn ekhurtza_load(register: &mut [u32], book: &[u64], places: &[u64], text: &[u8]) -> u64
+    ensures { λ r. ⌜ (r ≡ (stepEntry shanghai (memory (now (register .entry)) (now (book .entry)) (now (places .entry))) (Loaded (fileIn (now (text .entry))))) .answer .refusal)
+        × (memory (now (register .exit)) (now (book .entry)) (now (places .entry)) ≡ (stepEntry shanghai (memory (now (register .entry)) (now (book .entry)) (now (places .entry))) (Loaded (fileIn (now (text .entry))))) .memory) ⌝ }
+{
+    let answer = load(register, book, places, text);
+    answer.refusal
 }
 
 // The listing into a lent buffer, and how many bytes it has.
