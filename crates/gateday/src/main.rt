@@ -188,6 +188,18 @@ fn ratios_asked() -> bool {
     (os::arg_count() == 3) & ((n == 8) & same_at(&word, 0, b"--ratios"))
 }
 
+// A file of ratios loaded where one is named. Answers whether the day begins.
+fn begun(register: &mut [u32], book: &[u64], places: &[u64], out: &mut [u8]) -> bool {
+    if os::arg_count() <= 1 {
+        return true;
+    }
+    if !ratios_asked() {
+        return false;
+    }
+    print_load(register, book, places, out);
+    true
+}
+
 fn main() {
     let mut register = [0u32; REGISTER];
     let mut book = [0u64; BOOK];
@@ -195,11 +207,7 @@ fn main() {
     let mut input = io::large_buffer();
     let mut out = [0u8; 65530];
     open(&mut register, &mut book, &places);
-    if 1 < os::arg_count() {
-        if !ratios_asked() {
-            return;
-        }
-        print_load(&mut register, &book, &places, &mut out);
+    if begun(&mut register, &book, &places, &mut out) {
+        print_day(&mut register, &mut book, &mut places, &mut input, &mut out);
     }
-    print_day(&mut register, &mut book, &mut places, &mut input, &mut out);
 }
