@@ -109,7 +109,8 @@ function explain_load(answer, number, line, n) {
     number = column(answer, 1, 3)
     for (n = 1; (getline line < table) > 0; n++) {
         print "ratio file, line " n ": \"" line "\""
-        if (number == "0" || number == "2") print "    class " named_class(column(line, 1, 2)) ", numerator " column(line, 3, 4) ", denominator " column(line, 7, 4)
+        if (number == "0" || number == "2")
+            print "    class " named_class(column(line, 1, 2)) ", numerator " column(line, 3, 4) ", denominator " column(line, 7, 4)
         else if (table_bytes <= 100 && n == open_ratio) print "    no line feed at its end"
     }
     if (table_bytes > 100) print "    only its first 100 bytes are shown"
