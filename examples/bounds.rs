@@ -8,7 +8,7 @@
 //   C2: a price in a place that breaks its kind's price rule is out of its range ("When is a figure of a place out of its range?")
 //   C3: a figure that does not stand is held to its range, and an emergency figure that nobody holds is 0 ("What is in its range?")
 use crate::gate::{Gate, BOOK, MOST_GROUPS, PLACE, REGISTER, ROW_BYTES, ROW_WORDS};
-use crate::{FIRST_DECLARER, FIRST_FIGURE, FIRST_SCALAR, FIRST_UNIT, FIRST_UNIT_GROUP, L};
+use crate::{table, FIRST_DECLARER, FIRST_FIGURE, FIRST_SCALAR, FIRST_UNIT, FIRST_UNIT_GROUP, HEADER, L, OLD_RATIOS, RATIOS};
 
 const GROUPS: usize = 0;
 const UNITS: usize = 1;
@@ -144,6 +144,19 @@ fn unsound(gate: &Gate, why: &str) {
     }
     listing(gate, ROW_BYTES * MOST_GROUPS, 1, why);
     listing(gate, 0, 1, why);
+    // before 2 and 23 too
+    for text in [table(OLD_RATIOS), table([101, 1, 1, 1, 1, 1]), Vec::new()] {
+        loaded(gate, &text, 1, why);
+    }
+}
+
+// A load on a copy: refused, it leaves every word; accepted, it writes the six ratios and nothing else.
+fn loaded(gate: &Gate, text: &[u8], refusal: u64, why: &str) {
+    let mut tried = gate.clone();
+    let shown = String::from_utf8_lossy(text).into_owned();
+    assert_eq!(tried.load(text), refusal, "load of {shown:?}: {why}");
+    tried.register[RATIOS].copy_from_slice(&gate.register[RATIOS]);
+    assert!(tried == *gate, "load of {shown:?} changed more than the ratios: {why}");
 }
 
 // No figure is out of its range.
@@ -231,6 +244,133 @@ fn register_bounds() {
     }
 }
 
+// "numerator and denominator (both 1 to 100)" (2026-01): six words of the header, looked at though no group is enrolled; the eight behind them never.
+fn ratio_bounds() {
+    let why = "numerator and denominator (both 1 to 100)";
+    for gate in [opened(4), small(4), full(3)] {
+        assert_eq!(gate.register[RATIOS], OLD_RATIOS, "by the old ratios before any");
+        let before_any = gate.register[GROUPS] == 0;
+        for word in RATIOS {
+            for value in [1, 2, 99, 100] {
+                let other = with_word(&gate, word, value);
+                answered(&other, [11, 0, 0, 0, 0], 0, 0, why);
+                loaded(&other, &table(OLD_RATIOS), if before_any { 0 } else { 23 }, why);
+                listing(&other, ROW_BYTES * MOST_GROUPS, 0, why);
+            }
+            for value in [0, 101, 1 << 16, u32::MAX] {
+                unsound(&with_word(&gate, word, value), why);
+            }
+        }
+        for word in RATIOS.end..HEADER {
+            answered(&with_word(&gate, word, u32::MAX), [11, 0, 0, 0, 0], 0, 0, "not in use");
+        }
+    }
+    // a register that an older edition opened has 0 there
+    let mut older = opened(4);
+    older.register[RATIOS].fill(0);
+    unsound(&older, "a register of an older edition");
+
+    // "The quota is then base × numerator ÷ denominator, rounded half up": groups 0, 1 and 2 of the small gate are of classes 1, 3 and 4
+    let gate = small(4);
+    for (group, declarer, word) in [(0, 1, RATIOS.start), (1, 5, RATIOS.start + 2), (2, 7, RATIOS.start + 4)] {
+        for (numerator, denominator, base, quota) in [
+            (7, 3, 1, 2),
+            (7, 3, 2, 5),
+            (7, 3, 3, 7),
+            (3, 2, 3, 5),
+            (1, 100, 49, 0),
+            (1, 100, 50, 1),
+            (1, 100, 9_999_999, 100_000),
+            (100, 1, 99_999, 9_999_900),
+            (100, 99, 9_899_999, 9_999_999),
+            (99, 100, 9_999_999, 9_899_999),
+            (100, 100, 9_999_999, 9_999_999),
+        ] {
+            let other = with_word(&with_word(&gate, word, numerator), word + 1, denominator);
+            answered(&other, [4, declarer, group, base, quota], 0, 0, why);
+            answered(&other, [4, declarer, group, base, quota + 1], if quota == 9_999_999 { 2 } else { 8 }, 0, why);
+            if quota > 0 {
+                answered(&other, [4, declarer, group, base, quota - 1], 8, 0, why);
+            }
+        }
+        // no quota of the range follows: 8, and no product wraps (100 × 9,999,999)
+        let other = with_word(&with_word(&gate, word, 100), word + 1, 1);
+        answered(&other, [4, declarer, group, 100_000, 9_999_999], 8, 0, "quota 0 to 9,999,999 millions");
+        answered(&other, [4, declarer, group, 100_000, 10_000_000], 2, 0, "quota 0 to 9,999,999 millions");
+        answered(&other, [4, declarer, group, 9_999_999, 9_999_999], 8, 0, "quota 0 to 9,999,999 millions");
+    }
+}
+
+// Loads: each of the six numbers at the ends of its range and behind them; the classes; 23 from the first group on, after 2.
+fn loads() {
+    let fresh = opened(4);
+    for k in 0..6 {
+        for (value, refusal) in [(0, 2), (1, 0), (100, 0), (101, 2), (9_999, 2)] {
+            let mut numbers = [3, 5, 7, 11, 13, 17];
+            numbers[k] = value;
+            let why = "numerator and denominator (both 1 to 100)";
+            loaded(&fresh, &table(numbers), refusal, why);
+            for gate in [small(4), full(3)] {
+                loaded(&gate, &table(numbers), if refusal == 0 { 23 } else { 2 }, "23 .. when .. a group is already enrolled, after 2");
+            }
+            let mut gate = fresh.clone();
+            assert_eq!(gate.load(&table(numbers)), refusal);
+            assert_eq!(gate.register[RATIOS], if refusal == 0 { numbers } else { OLD_RATIOS }, "{why}");
+        }
+    }
+    let good = table(OLD_RATIOS);
+    // the classes stand in bytes 1 to 2, 12 to 13 and 23 to 24
+    for (line, class, refusal, why) in [
+        (0, b" 0", 2, "control class 1 to 4"),
+        (0, b" 2", 23, "for classes 1, 3 and 4 in that order"),
+        (0, b" 3", 23, "for classes 1, 3 and 4 in that order"),
+        (1, b" 1", 23, "for classes 1, 3 and 4 in that order"),
+        (1, b" 4", 23, "for classes 1, 3 and 4 in that order"),
+        (2, b" 3", 23, "for classes 1, 3 and 4 in that order"),
+        (2, b" 5", 2, "control class 1 to 4"),
+        (2, b"99", 2, "control class 1 to 4"),
+        (2, b"04", 23, "no leading zeros"),
+        (2, b"4 ", 23, "right-justified with blanks"),
+        (2, b"  ", 23, "class, numerator and denominator"),
+    ] {
+        let mut text = good.clone();
+        text[11 * line..][..2].copy_from_slice(class);
+        loaded(&fresh, &text, refusal, why);
+        loaded(&small(4), &text, refusal, why);
+    }
+    // every byte decides: none can be an x
+    for at in 0..good.len() {
+        let mut text = good.clone();
+        text[at] = b'x';
+        loaded(&fresh, &text, 23, "23, and not 21, when the file isn't of this form");
+    }
+    // and every length but 33
+    for bytes in 0..good.len() {
+        loaded(&fresh, &good[..bytes], 23, "three lines");
+    }
+    for behind in [&b"\n"[..], b" ", b"\0", b" 4   1   1\n"] {
+        loaded(&fresh, &[&good[..], behind].concat(), 23, "three lines");
+    }
+    // the last load counts, a refused one changes nothing, and the table lasts over closes
+    let mut gate = fresh.clone();
+    for (text, refusal, after) in [
+        (table([7, 3, 2, 1, 3, 1]), 0, [7, 3, 2, 1, 3, 1]),
+        (table([0, 3, 2, 1, 3, 1]), 2, [7, 3, 2, 1, 3, 1]),
+        (Vec::new(), 23, [7, 3, 2, 1, 3, 1]),
+        (table([1, 100, 1, 100, 1, 100]), 0, [1, 100, 1, 100, 1, 100]),
+        (table([7, 3, 2, 1, 3, 1]), 0, [7, 3, 2, 1, 3, 1]),
+    ] {
+        assert_eq!(gate.load(&text), refusal);
+        assert_eq!(gate.register[RATIOS], after, "the table loaded last");
+    }
+    refused(&gate, [1, 1, 2, 0, 0], 3, "a refused enrolment closes no door");
+    loaded(&gate, &good, 0, "a group is already enrolled");
+    accepted(&mut gate, [1, 1, 1, 0, 0], 0, "enrol");
+    accepted(&mut gate, [11, 0, 0, 0, 0], 0, "close");
+    loaded(&gate, &good, 23, "a group is already enrolled");
+    assert_eq!(gate.register[RATIOS], [7, 3, 2, 1, 3, 1], "the table loaded last");
+}
+
 // The same at the end of each column.
 fn last_of_each_column() {
     let gate = full(3);
@@ -294,8 +434,8 @@ fn row_rules() {
     let gate = small(4);
     let mut broken = vec![
         (with_word(&gate, scalar(CLASS, 0), 2), "class 1, 3 or 4"),
-        (with_word(&gate, scalar(MAXIMUM, 0), 0), "maximum 1 or more"),
         (with_word(&gate, scalar(OWN, 0), 9), "own quota at most maximum, which is 8"),
+        (with_word(&with_word(&gate, scalar(MAXIMUM, 0), 0), scalar(OWN, 0), 1), "own quota at most maximum, which is 0"),
     ];
     let mut above = gate.clone();
     above.book[money(0)..][..3].copy_from_slice(&[L, 1, 0]);
@@ -309,7 +449,8 @@ fn row_rules() {
         listing(&gate, 3 * ROW_BYTES, 1, why);
         listing(&gate, 0, 1, why);
     }
-    for (word, value) in [(scalar(CLASS, 0), 3), (scalar(MAXIMUM, 0), 1), (scalar(OWN, 0), 8)] {
+    // "listing rows, written or read, may show maximum 0 from now on" (2026-01)
+    for (word, value) in [(scalar(CLASS, 0), 3), (scalar(MAXIMUM, 0), 0), (scalar(MAXIMUM, 0), 1), (scalar(OWN, 0), 8)] {
         row(&with_word(&gate, word, value), 0, ROW_WORDS, 0, "a row that keeps its rules");
     }
     let mut most = gate.clone();
@@ -652,6 +793,8 @@ fn eight_stand() {
 
 pub fn check() {
     register_bounds();
+    ratio_bounds();
+    loads();
     last_of_each_column();
     group_numbers();
     row_rules();

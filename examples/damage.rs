@@ -5,7 +5,7 @@
 //   - after every refusal all three slices, and a listing's or a row's buffer, are as they were;
 //   - a gate restored from a copy of its bytes goes on as if nothing had happened;
 //   - words that are not in use yet decide no answer;
-//   - undamaged memory is never answered by 1, and every other number of a call is reached.
+//   - undamaged memory is never answered by 1, and every other number of a call or a load is reached.
 // A check that fails stops the program with another status than 0. Own generator, fixed seed: every run does the same.
 mod bounds;
 mod gate;
@@ -14,7 +14,10 @@ use gate::{Answer, Gate, BOOK, DASH, MOST_GROUPS, PLACE, REGISTER, ROW_BYTES, RO
 
 const DAYS: usize = 12_000;
 const L: u64 = 6_553_599_344_640_000_000;
-const HEADER: usize = 16;
+pub const HEADER: usize = 16;
+// Of the header: numerator and denominator of classes 1, 3 and 4, and what stands there before any load (2026-01).
+pub const RATIOS: std::ops::Range<usize> = 2..8;
+pub const OLD_RATIOS: [u32; 6] = [5, 2, 1, 1, 1, 1];
 const FIRST_DECLARER: usize = 16;
 const FIRST_FIGURE: usize = 528;
 const FIRST_UNIT: usize = 1040;
@@ -71,7 +74,8 @@ fn in_range(gate: &Gate) -> bool {
         return false;
     }
     let (groups, units) = (register[0] as usize, register[1] as usize);
-    (0..groups).all(|g| group_in_range(&group_words(register, g)))
+    register[RATIOS].iter().all(|ratio| (1..=100).contains(ratio))
+        && (0..groups).all(|g| group_in_range(&group_words(register, g)))
         && (0..units).all(|k| register[FIRST_UNIT + k] <= 99_999 && register[FIRST_UNIT_GROUP + k] < groups as u32)
         && (1..=65_536).contains(&book[0])
         && gate.places.len() as u64 == 4 * book[0]
@@ -95,7 +99,71 @@ fn place_in_range(gate: &Gate, order: u64) -> bool {
     group < gate.register[0] as u64 && priced && open <= 10_000_000
 }
 
+// ---- ratio files, by request 2026-01
+
+pub fn table(numbers: [u32; 6]) -> Vec<u8> {
+    let [a, b, c, d, e, f] = numbers;
+    format!(" 1{a:4}{b:4}\n 3{c:4}{d:4}\n 4{e:4}{f:4}\n").into_bytes()
+}
+
+// The nine numbers of a file that is of its form.
+fn file_numbers(text: &[u8]) -> Option<Vec<u32>> {
+    let columns = (text.len() == 33).then(|| [0, 11, 22].into_iter().flat_map(|at| [(at, 2), (at + 2, 4), (at + 6, 4)]))?;
+    let number = |(at, width): (usize, usize)| {
+        let column = std::str::from_utf8(&text[at..at + width]).ok()?;
+        let number = column.trim_start_matches(' ').parse::<u32>().ok()?;
+        (format!("{number:width$}") == column).then_some(number)
+    };
+    if [10, 21, 32].iter().any(|&at| text[at] != b'\n') {
+        return None;
+    }
+    columns.map(number).collect()
+}
+
+// What a load is answered where no memory is out of its range: 2, then 23.
+fn load_due(text: &[u8], groups: u32) -> u64 {
+    let Some(numbers) = file_numbers(text) else { return 23 };
+    let in_range = numbers.chunks(3).all(|line| (1..=4).contains(&line[0]) && (1..=100).contains(&line[1]) && (1..=100).contains(&line[2]));
+    if !in_range {
+        2
+    } else if [numbers[0], numbers[3], numbers[6]] != [1, 3, 4] || groups > 0 {
+        23
+    } else {
+        0
+    }
+}
+
+// Most are of their form; of the others a byte, or the length, is another.
+fn random_file(draws: &mut Draws) -> Vec<u8> {
+    let small = draws.once_in(2);
+    let mut text = table(std::array::from_fn(|_| if small { 1 + draws.below(9) as u32 } else { 1 + draws.below(100) as u32 }));
+    match draws.below(12) {
+        0 => text.truncate(draws.below(34) as usize),
+        1 => text.push(draws.next() as u8),
+        2 => text[draws.below(33) as usize] = draws.next() as u8,
+        3 => text[draws.below(33) as usize] = b'0' + draws.below(10) as u8,
+        4 => text = table(std::array::from_fn(|_| [0, 1, 100, 101, 9_999][draws.below(5) as usize])),
+        5 => text.swap(1, 12),
+        _ => {}
+    }
+    text
+}
+
 // ---- random days
+
+// The quota that the gate's own ratios give for a base, in the class of a group; the base where the group isn't enrolled.
+fn quota_by_words(gate: &Gate, group: u64, base: u64) -> u64 {
+    if group >= (gate.register[0] as u64).min(64) {
+        return base;
+    }
+    let at = match gate.register[FIRST_SCALAR + 64 + group as usize] {
+        1 => 2,
+        3 => 4,
+        _ => 6,
+    };
+    let (numerator, denominator) = (gate.register[at] as u64, gate.register[at + 1].max(1) as u64);
+    (2 * base * numerator + denominator) / (2 * denominator)
+}
 
 fn random_call(gate: &Gate, draws: &mut Draws) -> [u64; 5] {
     let d = draws;
@@ -107,7 +175,7 @@ fn random_call(gate: &Gate, draws: &mut Draws) -> [u64; 5] {
         0 | 1 => [1, d.below(4), 1 + d.below(4), d.next(), 0],
         2 | 3 => [2, unit, group, 0, d.next()],
         4 => [3, unit, 0, 0, 0],
-        5 | 6 | 7 => [4, declarer, group, amount, if d.once_in(2) { amount } else { (amount * 5 + 1) / 2 }],
+        5 | 6 | 7 => [4, declarer, group, amount, if d.once_in(4) { amount } else { quota_by_words(gate, group, amount) }],
         8 => [5, declarer, group, amount, d.below(2)],
         9 => [6, declarer, group, 0, 0],
         10 => [7, group, d.below(12), 0, 0],
@@ -132,7 +200,8 @@ fn random_call(gate: &Gate, draws: &mut Draws) -> [u64; 5] {
     call
 }
 
-// Three groups with units and maxima, as most days have them from the start. (full_morning fills the gate up.)
+// Three groups with units and maxima, as most days have them from the start. (full_morning fills the gate up.) The quotas are those of the old ratios;
+// where a table was loaded they are put right.
 const MORNING: [[u64; 5]; 13] = [
     [1, 1, 1, 0, 0],
     [1, 2, 3, 0, 0],
@@ -159,12 +228,39 @@ fn eight_declarers() -> impl Iterator<Item = [u64; 5]> {
     (0..8).map(|declarer| [4, declarer, 1, 3, 3])
 }
 
+fn by_the_table(gate: &Gate, call: [u64; 5]) -> [u64; 5] {
+    if call[0] == 4 { [4, call[1], call[2], call[3], quota_by_words(gate, call[2], call[3])] } else { call }
+}
+
 // ---- checks
 
 struct Seen {
     calls: u64,
     unsound: u64,
-    answers: [u64; 23],
+    answers: [u64; 21],
+    // to loads: accepted, 1, 2, 23
+    loads: [u64; 4],
+}
+
+impl Seen {
+    fn nothing() -> Seen {
+        Seen { calls: 0, unsound: 0, answers: [0; 21], loads: [0; 4] }
+    }
+}
+
+// A load, with every check of its answer and of the memory after it: the six words of an accepted one, or none.
+fn checked_load(gate: &mut Gate, text: &[u8], seen: &mut Seen) -> u64 {
+    let mut due = gate.clone();
+    let refusal = gate.load(text);
+    let expected = if in_range(&due) { load_due(text, due.register[0]) } else { UNSOUND };
+    assert_eq!(refusal, expected, "load of {:?}", String::from_utf8_lossy(text));
+    if refusal == 0 {
+        let numbers = file_numbers(text).unwrap();
+        due.register[RATIOS].copy_from_slice(&[numbers[1], numbers[2], numbers[4], numbers[5], numbers[7], numbers[8]]);
+    }
+    assert!(*gate == due, "load of {:?}, answered by {refusal}", String::from_utf8_lossy(text));
+    seen.loads[[0, 1, 2, 23].iter().position(|&number| number == refusal).unwrap()] += 1;
+    refusal
 }
 
 // One call, with every check of its answer and of the memory after it.
@@ -301,16 +397,16 @@ fn from_bytes(bytes: &[u8]) -> Gate {
 }
 
 // Ends of ranges, and what lies behind them.
-const EDGES: [u64; 17] = [4, 5, 8, 9, 63, 64, 65, 256, 257, 65_536, 65_537, 99_999, 100_000, 200_000, 200_001, L, L + 1];
+const EDGES: [u64; 20] = [0, 4, 5, 8, 9, 63, 64, 65, 100, 101, 256, 257, 65_536, 65_537, 99_999, 100_000, 200_000, 200_001, L, L + 1];
 const QUOTAS: [u64; 4] = [9_999_999, 10_000_000, 10_000_001, 9_999_998];
 
-// A word of a register that is in use: a count, a unit or its group, a word of a group.
+// A word of a register that is in use: a count, a ratio's number, a unit or its group, a word of a group.
 fn used_word(groups: u64, units: u64, draws: &mut Draws) -> usize {
     if units > 0 && draws.once_in(4) {
         return [FIRST_UNIT, FIRST_UNIT_GROUP][draws.below(2) as usize] + draws.below(units) as usize;
     }
-    if groups == 0 || draws.once_in(12) {
-        return draws.below(2) as usize;
+    if groups == 0 || draws.once_in(6) {
+        return draws.below(RATIOS.end as u64) as usize;
     }
     match draws.below(23) {
         k @ 0..=6 => FIRST_SCALAR + 64 * k as usize + draws.below(groups) as usize,
@@ -356,11 +452,11 @@ fn damage(gate: &mut Gate, draws: &mut Draws) {
     }
 }
 
-// Anything in the words of the header behind the counts, of groups, their money and units above the counts, and of places above the last number given.
+// Anything in the words of the header behind the ratios, of groups, their money and units above the counts, and of places above the last number given.
 fn fill_unused(gate: &mut Gate, draws: &mut Draws) {
     let (groups, units, orders) = (gate.register[0] as usize, gate.register[1] as usize, gate.book[1] as usize);
     let columns = (0..SCALARS).map(|k| FIRST_SCALAR + 64 * k + groups..FIRST_SCALAR + 64 * (k + 1));
-    let rest = [2..HEADER, FIRST_DECLARER + 8 * groups..FIRST_FIGURE, FIRST_FIGURE + 8 * groups..FIRST_UNIT, FIRST_UNIT + units..FIRST_UNIT_GROUP, FIRST_UNIT_GROUP + units..FIRST_SCALAR];
+    let rest = [RATIOS.end..HEADER, FIRST_DECLARER + 8 * groups..FIRST_FIGURE, FIRST_FIGURE + 8 * groups..FIRST_UNIT, FIRST_UNIT + units..FIRST_UNIT_GROUP, FIRST_UNIT_GROUP + units..FIRST_SCALAR];
     for part in rest.into_iter().chain(columns) {
         gate.register[part].fill_with(|| draws.next() as u32);
     }
@@ -380,6 +476,9 @@ fn check_lengths(draws: &mut Draws) {
         assert!(gate == before);
         assert_eq!(gate.listing(&mut [0; 200]).refusal, UNSOUND);
         assert_eq!(gate.row(0, &mut [0; 9]), UNSOUND);
+        assert_eq!(gate.load(&table(OLD_RATIOS)), UNSOUND);
+        assert_eq!(gate.load(&[]), UNSOUND);
+        assert!(gate == before);
     }
     // a gate that is handed other slices than at its opening
     let mut gate = Gate::lent(REGISTER, BOOK, 4 * 5, 0);
@@ -392,6 +491,7 @@ fn check_lengths(draws: &mut Draws) {
         for code in 1..=11 {
             let before = other.clone();
             assert_eq!(other.call([code, draws.below(3), 1, 1, 1]).refusal, UNSOUND);
+            assert_eq!(other.load(&table(OLD_RATIOS)), UNSOUND);
             assert!(other == before);
         }
     }
@@ -403,16 +503,19 @@ fn check_lengths(draws: &mut Draws) {
 
 fn main() {
     let mut draws = Draws(0x9e37_79b9_7f4a_7c15);
-    let mut whole = Seen { calls: 0, unsound: 0, answers: [0; 23] };
-    let mut hurt = Seen { calls: 0, unsound: 0, answers: [0; 23] };
+    let (mut whole, mut hurt) = (Seen::nothing(), Seen::nothing());
     check_lengths(&mut draws);
     bounds::check();
     for day in 0..DAYS {
         let n = [1, 3, 20, 64][draws.below(4) as usize];
         let mut gate = Gate::lent(REGISTER, BOOK, PLACE * n, draws.next());
         assert_eq!(gate.open(), 0);
+        for _ in 0..draws.below(4) {
+            checked_load(&mut gate, &random_file(&mut draws), &mut whole);
+        }
         if !draws.once_in(4) {
             for call in MORNING {
+                let call = by_the_table(&gate, call);
                 assert_eq!(checked_call(&mut gate, call, &mut whole).refusal, 0);
             }
             if day % 50 == 0 {
@@ -421,6 +524,7 @@ fn main() {
                 }
             } else if day % 8 == 0 {
                 for call in eight_declarers() {
+                    let call = by_the_table(&gate, call);
                     assert_eq!(checked_call(&mut gate, call, &mut whole).refusal, 0);
                 }
             }
@@ -428,6 +532,9 @@ fn main() {
         for _ in 0..draws.below(90) {
             let call = random_call(&gate, &mut draws);
             checked_call(&mut gate, call, &mut whole);
+            if draws.once_in(30) {
+                checked_load(&mut gate, &random_file(&mut draws), &mut whole);
+            }
         }
         check_readers(&gate, false, &mut draws);
 
@@ -438,6 +545,7 @@ fn main() {
         for _ in 0..1 + draws.below(12) {
             let call = random_call(&gate, &mut draws);
             touched |= checked_call(&mut gate, call, &mut hurt).refusal == 0;
+            touched |= draws.once_in(4) && checked_load(&mut gate, &random_file(&mut draws), &mut hurt) == 0;
         }
         assert!(touched || gate == damaged);
         check_readers(&gate, true, &mut draws);
@@ -452,13 +560,21 @@ fn main() {
             let answer = checked_call(&mut gate, call, &mut whole);
             assert_eq!(answer, twin.call(call));
             assert_eq!(answer, noisy.call(call));
+            if draws.once_in(8) {
+                let text = random_file(&mut draws);
+                let refusal = checked_load(&mut gate, &text, &mut whole);
+                assert_eq!(refusal, twin.load(&text));
+                assert_eq!(refusal, noisy.load(&text));
+            }
         }
         assert!(gate == twin);
         assert!(listing_of(&gate) == listing_of(&noisy));
     }
     assert_eq!(whole.answers[UNSOUND as usize], 0, "undamaged memory was answered by 1");
-    assert!((2..=20).all(|number| whole.answers[number] > 0), "a number was never reached: {:?}", &whole.answers[..21]);
+    assert!((2..=20).all(|number| whole.answers[number] > 0), "a number was never reached: {:?}", whole.answers);
+    assert!(whole.loads[1] == 0 && [0, 2, 3].iter().all(|&k| whole.loads[k] > 100), "loads: {:?}", whole.loads);
+    assert!(hurt.loads.iter().all(|&count| count > 100), "loads of damaged gates: {:?}", hurt.loads);
     assert!(hurt.unsound > 10_000 && hurt.answers[0] > 1_000, "too little was tried");
-    println!("{DAYS} days; undamaged: {} calls, answers {:?}", whole.calls, &whole.answers[..21]);
-    println!("damaged: {} calls, {} with a figure out of range, answers {:?}", hurt.calls, hurt.unsound, &hurt.answers[..21]);
+    println!("{DAYS} days; undamaged: {} calls, answers {:?}; loads by 0, 1, 2, 23: {:?}", whole.calls, whole.answers, whole.loads);
+    println!("damaged: {} calls, {} with a figure out of range, answers {:?}; loads {:?}", hurt.calls, hurt.unsound, hurt.answers, hurt.loads);
 }

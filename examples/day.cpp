@@ -1,5 +1,5 @@
 // Document 01's day through the class of gate.hpp: each answer as gateday prints it, then the listing, on standard output. On standard error the
-// same day as call lines, then the group's room and the listing read back.
+// same day as call lines, then the group's room and the listing read back. The gate is loaded with document 01's own ratios, which changes no answer.
 // Build: c++ -std=c++17 -O2 -Iinclude examples/day.cpp target/lib/libekhurtza.a -o day
 #include <cstdio>
 #include <cstdlib>
@@ -40,6 +40,7 @@ std::string or_dash(const std::optional<std::uint64_t> &limit) { return limit ? 
 
 int main() {
     ekhurtza::Gate gate(2048);
+    if (gate.load(" 1   5   2\n 3   1   1\n 4   1   1\n") != EKHURTZA_ACCEPTED) return EXIT_FAILURE;
     for (const Call &call : day) {
         const std::string line = ekhurtza::call_line(call.code, call.a, call.b, call.c, call.d);
         std::cerr << line;

@@ -1,6 +1,6 @@
 #!/usr/bin/env python3
 """Document 01's day through libekhurtza.so, by ctypes: each answer as gateday prints it, then the listing, on standard output. On standard error the
-same day as call lines, then the group's room and the listing read back.
+same day as call lines, then the group's room and the listing read back. The gate is loaded with document 01's own ratios, which changes no answer.
 
     python3 examples/day.py [LIBRARY]      (else target/lib/libekhurtza.so beside; make library)
 """
@@ -41,6 +41,7 @@ def library(path):
     words, text = [ctypes.POINTER(u64), size], [ctypes.POINTER(ctypes.c_uint8), size]
     for name, answer, fields in [
         ("ekhurtza_open", u64, gate),
+        ("ekhurtza_load", u64, gate + text),
         ("ekhurtza_call", Answer, gate + 5 * [u64]),
         ("ekhurtza_listing", Answer, gate + text),
         ("ekhurtza_row", u64, gate + [u64] + words),
@@ -68,6 +69,10 @@ class Gate:
         self.places = (ctypes.c_uint64 * (PLACE * orders))()
         self.memory = (self.register, REGISTER, self.book, BOOK, self.places, PLACE * orders)
         accept(lib.ekhurtza_open(*self.memory))
+
+    def load(self, text):
+        """A ratio file, before the first group is enrolled: 0, 2 or 23. Quotas follow from bases by it from then on."""
+        return self.lib.ekhurtza_load(*self.memory, (ctypes.c_uint8 * len(text)).from_buffer_copy(text), len(text))
 
     def call(self, code, a=0, b=0, c=0, d=0):
         return self.lib.ekhurtza_call(*self.memory, code, a, b, c, d)
@@ -116,6 +121,7 @@ def main():
     beside = pathlib.Path(__file__).resolve().parent.parent / "target" / "lib" / "libekhurtza.so"
     lib = library(sys.argv[1] if len(sys.argv) > 1 else beside)
     gate = Gate(lib, 2048)
+    accept(gate.load(b" 1   5   2\n 3   1   1\n 4   1   1\n"))
     for call in DAY:
         line = call_line(lib, *call)
         sys.stderr.write(line.decode("ascii"))

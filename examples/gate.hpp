@@ -52,6 +52,11 @@ public:
         accept(ekhurtza_open(register_.data(), register_.size(), book_.data(), book_.size(), places_.data(), places_.size()));
     }
 
+    // A ratio file, 33 bytes, before the first group is enrolled: 0, 2 or 23. Quotas follow from bases by it from then on.
+    std::uint64_t load(std::string_view text) {
+        return ekhurtza_load(register_.data(), register_.size(), book_.data(), book_.size(), places_.data(), places_.size(), reinterpret_cast<const std::uint8_t *>(text.data()), text.size());
+    }
+
     // A refusal is an ordinary answer here: 16 is what the gate is for.
     Answer call(std::uint64_t code, std::uint64_t a = 0, std::uint64_t b = 0, std::uint64_t c = 0, std::uint64_t d = 0) {
         return ekhurtza_call(register_.data(), register_.size(), book_.data(), book_.size(), places_.data(), places_.size(), code, a, b, c, d);

@@ -9,6 +9,7 @@ pub const ROW_BYTES: usize = 108;
 pub const ROW_WORDS: usize = 9;
 pub const ROOM_WORDS: usize = 2;
 pub const CALL_BYTES: usize = 39;
+pub const RATIO_BYTES: usize = 33;
 pub const MOST_GROUPS: usize = 64;
 pub const UNSOUND: u64 = 1;
 pub const DASH: u64 = u64::MAX;
@@ -22,6 +23,7 @@ pub struct Answer {
 
 extern "C" {
     fn ekhurtza_open(reg: *mut u32, reg_words: usize, book: *mut u64, book_words: usize, places: *const u64, places_words: usize) -> u64;
+    fn ekhurtza_load(reg: *mut u32, reg_words: usize, book: *const u64, book_words: usize, places: *const u64, places_words: usize, text: *const u8, text_bytes: usize) -> u64;
     fn ekhurtza_call(reg: *mut u32, reg_words: usize, book: *mut u64, book_words: usize, places: *mut u64, places_words: usize, code: u64, a: u64, b: u64, c: u64, d: u64) -> Answer;
     fn ekhurtza_listing(reg: *const u32, reg_words: usize, book: *const u64, book_words: usize, places: *const u64, places_words: usize, buffer: *mut u8, buffer_bytes: usize) -> Answer;
     fn ekhurtza_row(reg: *const u32, reg_words: usize, book: *const u64, book_words: usize, places: *const u64, places_words: usize, group: u64, out: *mut u64, out_words: usize) -> u64;
@@ -46,6 +48,11 @@ impl Gate {
 
     pub fn open(&mut self) -> u64 {
         unsafe { ekhurtza_open(self.register.as_mut_ptr(), self.register.len(), self.book.as_mut_ptr(), self.book.len(), self.places.as_ptr(), self.places.len()) }
+    }
+
+    // A ratio file, before the first group is enrolled.
+    pub fn load(&mut self, text: &[u8]) -> u64 {
+        unsafe { ekhurtza_load(self.register.as_mut_ptr(), self.register.len(), self.book.as_ptr(), self.book.len(), self.places.as_ptr(), self.places.len(), text.as_ptr(), text.len()) }
     }
 
     pub fn call(&mut self, call: [u64; 5]) -> Answer {

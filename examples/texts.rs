@@ -142,11 +142,13 @@ fn check_texts() {
     assert_eq!(line(["1", "1", "8", "5", "3740000000", "2500000000", "1240000000", "0"]), LISTING);
     let none = line(["1", "3", "-", "-", "0", "0", "0", "0"]);
     let below = line(["99999", "4", "9999999", "0", "-6553599344640000000", "0", "0", "6553599344640000000"]);
-    let text = [LISTING, &none, &below].concat();
+    let zero = line(["2", "3", "0", "0", "-1", "0", "0", "1"]);
+    let text = [LISTING, &none, &below, &zero].concat();
     let rows = [
         vec![1, 1, 8, 5, 0, 3_740_000_000, 2_500_000_000, 1_240_000_000, 0],
         vec![1, 3, DASH, DASH, 0, 0, 0, 0, 0],
         vec![99_999, 4, 9_999_999, 0, 1, 6_553_599_344_640_000_000, 0, 0, 6_553_599_344_640_000_000],
+        vec![2, 3, 0, 0, 1, 1, 0, 0, 1],
     ];
     for (k, row) in (0..).zip(&rows) {
         for words in [9, 10, 20] {
@@ -154,8 +156,8 @@ fn check_texts() {
         }
         assert_eq!(row_in(text.as_bytes(), k, 8), Err(22));
     }
-    // no row 3; 108 * k must not come round to a row that is there: 108 * 2^62 is 0 modulo 2^64
-    for k in [3, 63, 64, 1 << 62, (1 << 62) + 1, u64::MAX] {
+    // no row 4; 108 * k must not come round to a row that is there: 108 * 2^62 is 0 modulo 2^64
+    for k in [4, 63, 64, 1 << 62, (1 << 62) + 1, u64::MAX] {
         assert_eq!(row_in(text.as_bytes(), k, 9), Err(6));
         assert_eq!(row_in(text.as_bytes(), k, 0), Err(6), "6 before 22");
     }
@@ -177,7 +179,11 @@ fn check_damaged_texts() {
         (["2 ", "3", "8", "5", "0", "0", "0", "0"], "right-justified"),
         (["", "3", "8", "5", "0", "0", "0", "0"], "no other field may be missing"),
         (["-", "3", "8", "5", "0", "0", "0", "0"], "no other field may be missing"),
-        (["2", "3", "0", "0", "0", "0", "0", "0"], "maximum 1 or more"),
+        (["2", "3", "0", "1", "0", "0", "0", "0"], "own quota at most maximum, which is 0"),
+        (["2", "3", "0", "-", "0", "0", "0", "0"], "- stands for a maximum of none, and then for own quota"),
+        (["2", "3", "-", "0", "0", "0", "0", "0"], "- stands for a maximum of none, and then for own quota"),
+        (["2", "3", "-0", "0", "0", "0", "0", "0"], "a minus only in net"),
+        (["2", "3", "00", "0", "0", "0", "0", "0"], "no leading zeros"),
         (["2", "3", "10000000", "5", "0", "0", "0", "0"], "quota 0 to 9,999,999"),
         (["2", "3", "8", "9", "0", "0", "0", "0"], "own quota at most maximum"),
         (["2", "3", "8", "-", "0", "0", "0", "0"], "- stands for a maximum of none, and then for own quota"),
@@ -197,6 +203,44 @@ fn check_damaged_texts() {
             assert_eq!(row_in(text.as_bytes(), k, words), Err(21), "21 before 6 and 22: {text:?}");
         }
     }
+}
+
+// ---- maximum 0 (2026-01): "listing rows, written or read, may show maximum 0 from now on"
+
+// By 1/100 a base of 49 gives 0.49, which is 0: a standing figure, and at the close a maximum of 0 and not none.
+fn check_maximum_zero() {
+    let mut gate = opened();
+    assert_eq!(gate.load(b" 1   1 100\n 3   1 100\n 4   1 100\n"), 0);
+    for call in [[1, 2, 3, 0, 0], [2, 10, 0, 0, 0], [4, 5, 0, 49, 0]] {
+        assert_eq!(gate.call(call).refusal, 0);
+    }
+    assert_eq!(room_of(&gate, 0, 2), Err(15), "no maximum before the close");
+    assert_eq!(gate.call([11, 0, 0, 0, 0]).refusal, 0);
+    for (calls, net, room, buy) in [
+        (&[][..], ("0", 0), 0, 16),
+        // one mil sold: net -1 is below the own quota of 0
+        (&[[8, 10, 4, 1, 1], [9, 1, 1, 1, 0]][..], ("-1", 1), 1, 0),
+    ] {
+        for &call in calls {
+            assert_eq!(gate.call(call).refusal, 0);
+        }
+        let sold = net.1.to_string();
+        let mut buffer = [0; ROW_BYTES * MOST_GROUPS];
+        let listed = gate.listing(&mut buffer).number as usize;
+        assert_eq!(std::str::from_utf8(&buffer[..listed]).unwrap(), line(["2", "3", "0", "0", net.0, "0", "0", &sold]));
+        assert_eq!(row_in(&buffer[..listed], 0, ROW_WORDS), Ok(vec![2, 3, 0, 0, net.1, net.1, 0, 0, net.1]));
+        assert_eq!(room_of(&gate, 0, 2), Ok(room));
+        assert_eq!(gate.clone().call([8, 10, 1, 1, 1]).refusal, buy);
+    }
+    // call 7: 0 is the maximum, 1 is above it; a raise to 1 is above it, to 0 is out of its range
+    for (call, refusal) in [([7, 0, 0, 0, 0], 0), ([7, 0, 1, 0, 0], 14), ([5, 5, 0, 1, 0], 0), ([5, 5, 0, 0, 0], 2)] {
+        assert_eq!(gate.clone().call(call).refusal, refusal, "{call:?}");
+    }
+    // base 0 with quota 0 withdraws the figure of 0, once
+    assert_eq!(gate.call([4, 5, 0, 0, 0]).refusal, 0);
+    assert_eq!(gate.call([4, 5, 0, 0, 0]).refusal, 9);
+    assert_eq!(gate.call([11, 0, 0, 0, 0]).refusal, 0);
+    assert_eq!(room_of(&gate, 0, 2), Err(15), "none stands: none");
 }
 
 // ---- a random day: room and row, row and text, room and the next buy
@@ -246,5 +290,6 @@ fn main() {
     check_rooms();
     check_texts();
     check_damaged_texts();
+    check_maximum_zero();
     check_random_day();
 }

@@ -1,6 +1,6 @@
 /* Ekhurtza: the front-end capital control gate, Shanghai market, for order routers in C and C++ (C99, C++17).
  *
- * Seven functions over memory that the router lends; the library keeps nothing between calls, allocates nothing and writes no file. Each is
+ * Eight functions over memory that the router lends; the library keeps nothing between calls, allocates nothing and writes no file. Each is
  * proved, for memory of any content and any length, to answer and to leave behind exactly what its contract says (crates/router/src/lib.rt).
  * docs/EMBEDDING.md says who owns which memory and what the caller owes: every pointer is valid for its length, and no two slices overlap.
  * docs/FORMATS.md has the lines and columns, and in tables what each number below means. Names in quotes are sections of document 01.
@@ -17,9 +17,9 @@
 extern "C" {
 #endif
 
-#define EKHURTZA_VERSION "1.0.0"
+#define EKHURTZA_VERSION "1.1.0"
 #define EKHURTZA_VERSION_MAJOR 1 /* another: what was compiled before no longer links or answers as before */
-#define EKHURTZA_VERSION_MINOR 0 /* more functions or numbers, none changed */
+#define EKHURTZA_VERSION_MINOR 1 /* more functions or numbers, none changed */
 #define EKHURTZA_VERSION_PATCH 0 /* neither */
 
 /* How much to lend: the register in words of 32 bits, book and places in words of 64 bits. */
@@ -32,6 +32,7 @@ extern "C" {
 #define EKHURTZA_ROW_WORDS 9   /* words of a row */
 #define EKHURTZA_ROOM_WORDS 2  /* words of a room */
 #define EKHURTZA_CALL_BYTES 39 /* bytes of a call line, line feed included */
+#define EKHURTZA_RATIO_BYTES 33 /* bytes of a ratio file: three lines of 10 and a line feed */
 
 /* The ranges of fields ("Money and names"): from 0, but price and quantity from 1, order from 1, class from 1. Outside them a call is refused by 2.
  * A mil is 0.001 yuan. Prices and amounts are in mils, quotas and bases in millions of yuan. */
@@ -48,14 +49,15 @@ extern "C" {
 #define EKHURTZA_MOST_UNITS 256         /* attached units */
 #define EKHURTZA_MOST_DECLARERS 8       /* declarers of a group with a figure standing ("Quotas") */
 #define EKHURTZA_THRESHOLD 100000       /* millions: regular figures give no more; a raise above it bears flag 1 ("Quotas") */
+#define EKHURTZA_TOP_RATIO 100          /* numerator and denominator of a ratio, from 1 (request 2026-01) */
 #define EKHURTZA_MILS_A_MILLION INT64_C(1000000000) /* mils in a million yuan; 64 bits, since three millions pass an int */
 #define EKHURTZA_TOP_MONEY UINT64_C(6553599344640000000) /* L, mils: no group's open + bought + sold passes it; below 2^63 */
 
-/* Control classes ("Money and names"). */
-#define EKHURTZA_PROPRIETARY 1      /* member proprietary: the firm alone declares; quota is base * 2.5, rounded half up */
+/* Control classes ("Money and names"). The quota is base * ratio, rounded half up; ekhurtza_load replaces these ratios. */
+#define EKHURTZA_PROPRIETARY 1      /* member proprietary: the firm alone declares; ratio 5/2 */
 #define EKHURTZA_BROKERAGE 2        /* member brokerage: not controlled, enrolling it is refused by 3 */
-#define EKHURTZA_ASSET_MANAGEMENT 3 /* member asset management: quota is the base */
-#define EKHURTZA_INSTITUTION 4      /* institution business: quota is the base */
+#define EKHURTZA_ASSET_MANAGEMENT 3 /* member asset management: ratio 1/1 */
+#define EKHURTZA_INSTITUTION 4      /* institution business: ratio 1/1 */
 
 /* Kinds of orders ("Orders"). 1, 2 and 3 are buys: they need room, and their open quantity counts at the order's price from the start. The others
  * count only when filled. A fill at a price that the kind does not allow is refused by 20. */
@@ -79,7 +81,7 @@ extern "C" {
 #define EKHURTZA_CANCEL 10    /* order */
 #define EKHURTZA_CLOSE 11
 
-/* The refusals. Of several that apply the smallest is returned, and all lent memory keeps its contents. */
+/* The refusals. Of several that apply the smallest is returned (a load: 1, 2, 23), and all lent memory keeps its contents. */
 #define EKHURTZA_ACCEPTED 0
 #define EKHURTZA_UNSOUND 1              /* N out of range or other than at opening; a figure of the memory out of its range, or a total that would leave it */
 #define EKHURTZA_OUT_OF_RANGE 2         /* a field outside its range or its kind's price rule; a code that is no call's */
@@ -103,6 +105,7 @@ extern "C" {
 #define EKHURTZA_WORSE_FILL 20          /* fill price worse than the order allows */
 #define EKHURTZA_MALFORMED 21           /* text not of the stated form: a listing that is read; a call line of gateday */
 #define EKHURTZA_SHORT_BUFFER 22        /* buffer of a listing, a row, a room or a call line too short */
+#define EKHURTZA_NO_TABLE 23            /* ratio file not of its form, or a group already enrolled: given after 2, by ekhurtza_load alone */
 
 /* What a call answers: the refusal, or 0; and the number given at calls 1 and 8, else 0. Of a listing: the bytes written, 0 where it is refused. */
 struct ekhurtza_answer {
@@ -113,6 +116,12 @@ struct ekhurtza_answer {
 /* A fresh gate in a register and a book of any content; N is places_words / 4. No place is written.
  * 0, or 1 where a slice has another length or N is out of its range; then nothing is written. */
 uint64_t ekhurtza_open(uint32_t *reg, size_t reg_words, uint64_t *book, size_t book_words, const uint64_t *places, size_t places_words);
+
+/* A ratio file: from then on quotas follow from bases by its ratios (call 4), over closes too. It comes before the first group is enrolled; of several
+ * loads the last accepted one counts, and before any the ratios are 5/2, 1/1, 1/1. Refused in this order by 1; by 2 (a file of its form with a class
+ * outside 1 to 4, or a numerator or denominator outside 1 to 100); by 23 (a file that isn't of its form, one with other classes than 1, 3, 4 in that order,
+ * or a group already enrolled). Never by 21. Only an accepted load writes the register; book and places are read alone. */
+uint64_t ekhurtza_load(uint32_t *reg, size_t reg_words, const uint64_t *book, size_t book_words, const uint64_t *places, size_t places_words, const uint8_t *text, size_t text_bytes);
 
 /* A call by its code and four fields. A code other than 1 to 11 is answered by 2, or by 1 where the memory is not sound. */
 struct ekhurtza_answer ekhurtza_call(uint32_t *reg, size_t reg_words, uint64_t *book, size_t book_words, uint64_t *places, size_t places_words, uint64_t code, uint64_t a, uint64_t b, uint64_t c, uint64_t d);
@@ -142,7 +151,7 @@ uint64_t ekhurtza_call_line(uint64_t code, uint64_t a, uint64_t b, uint64_t c, u
 /* The words of a row, in the order of a listing's columns. Money is in mils. */
 #define EKHURTZA_ROW_CODE 0
 #define EKHURTZA_ROW_CLASS 1
-#define EKHURTZA_ROW_MAXIMUM 2  /* in millions, or EKHURTZA_DASH */
+#define EKHURTZA_ROW_MAXIMUM 2  /* in millions, 0 included, or EKHURTZA_DASH */
 #define EKHURTZA_ROW_OWN 3      /* in millions, or EKHURTZA_DASH, which it is just where the maximum is */
 #define EKHURTZA_ROW_BELOW 4    /* 1 where net is below 0, else 0 */
 #define EKHURTZA_ROW_NET 5      /* the size of net */
@@ -179,6 +188,7 @@ static inline const char *ekhurtza_meaning(uint64_t refusal) {
     case EKHURTZA_WORSE_FILL: return "fill price worse than the order's";
     case EKHURTZA_MALFORMED: return "text not of the stated form";
     case EKHURTZA_SHORT_BUFFER: return "buffer too short; a listing takes 108 bytes a group";
+    case EKHURTZA_NO_TABLE: return "ratio file not of its form, or a group already enrolled";
     default: return "unknown refusal";
     }
 }

@@ -1,6 +1,8 @@
-# ./gateday --explain: each call line in words, with its answer; then each group's row of the listing, with its room.
+# ./gateday --explain: the load of a ratio file, where there is one; each call line in words, with its answer; then each group's row of the listing,
+# with its room.
 # Standard input: the call lines, made visible by cat -v. Environment: ANSWERS, the file of what gateday printed; ROOMS, of what readlisting
-# printed for the listing in it; OPEN_LINE, the number of the last line where it has no line feed, else 0.
+# printed for the listing in it; OPEN_LINE, the number of the last line where it has no line feed, else 0; TABLE, the file of the ratio file's first
+# 100 bytes, made visible, or nothing where none was loaded; TABLE_BYTES, how many it has, 101 for all above 100; OPEN_RATIO as OPEN_LINE.
 # Which line is malformed, which call is refused and how much room is left is for the programs to say, which are proved: nothing is decided
 # here. Numbers stay text: awk's are doubles, exact to 2^53 only, and money goes beyond.
 
@@ -10,8 +12,12 @@ BEGIN {
     answers = ENVIRON["ANSWERS"]
     rooms = ENVIRON["ROOMS"]
     open_line = ENVIRON["OPEN_LINE"]
+    table = ENVIRON["TABLE"]
+    table_bytes = ENVIRON["TABLE_BYTES"] + 0
+    open_ratio = ENVIRON["OPEN_RATIO"]
     name_calls()
     name_refusals()
+    if (table != "") explain_load()
 }
 
 # "The eleven calls", with the names of docs/FORMATS.md; "Kinds" (Orders); the classes (Money and names).
@@ -64,6 +70,7 @@ function name_refusals() {
     refusal["19"] = "quantity above the open quantity; cancel with none open"
     refusal["20"] = "fill price worse than the order's"
     refusal["21"] = "text not of the stated form"
+    refusal["23"] = "ratio file not of its form, or a group already enrolled"
 }
 
 # ---- small things
@@ -92,6 +99,24 @@ function stop(why) {
     close("cat 1>&2")
     stopped = 1
     exit 1
+}
+
+# ---- the ratio file
+
+# Its lines as they read, then the answer. 0 and 2 are answered to a file of its form alone ("2 where the file is formed .."), so its columns are numbers.
+function explain_load(answer, number, line, n) {
+    if ((getline answer < answers) < 1 || length(answer) != 9) stop("gateday gave no answer to the load")
+    number = column(answer, 1, 3)
+    for (n = 1; (getline line < table) > 0; n++) {
+        print "ratio file, line " n ": \"" line "\""
+        if (number == "0" || number == "2")
+            print "    class " named_class(column(line, 1, 2)) ", numerator " column(line, 3, 4) ", denominator " column(line, 7, 4)
+        else if (table_bytes <= 100 && n == open_ratio) print "    no line feed at its end"
+    }
+    if (table_bytes > 100) print "    only its first 100 bytes are shown"
+    print "load of the ratio file, " ((table_bytes > 100) ? "more than 100" : table_bytes) " bytes"
+    print "    answer \"" answer "\": " outcome(number, column(answer, 4, 6), "")
+    print ""
 }
 
 # ---- the lines

@@ -17,14 +17,19 @@ wrong_usage() { # WHAT-IS-WRONG
 
 # ---- input
 
+# What is no file at all is wrong usage.
+want_file() { # FILE
+    [ -e "$1" ] || wrong_usage "there is no file ${1@Q}"
+    [ ! -d "$1" ] || wrong_usage "${1@Q} is a directory"
+}
+
 # Makes FILE standard input, where one is given. What could only be read as an empty input is wrong usage: the programs take a failing read
 # for the input's end.
 take_input() { # [FILE]
     [ $# -le 1 ] || wrong_usage "$# arguments where one file is due"
     if [ $# -eq 1 ]; then
         case $1 in -*) wrong_usage "there is no option ${1@Q} (a file of that name is ./$1)" ;; esac
-        [ -e "$1" ] || wrong_usage "there is no file ${1@Q}"
-        [ ! -d "$1" ] || wrong_usage "${1@Q} is a directory"
+        want_file "$1"
         { exec < "$1"; } 2> /dev/null || wrong_usage "${1@Q} can't be read"
     fi
     { : 9<&0; } 2> /dev/null || wrong_usage "standard input is closed"
@@ -142,10 +147,10 @@ show_progress() { # HOW-MANY-CRATES
 
 # ---- running
 
-# Standard input through the program to standard output. The two cats tell by their status whether all was read and all was written, which
+# Standard input through the program, with its arguments, to standard output. The two cats tell by their status whether all was read and all was written, which
 # the program does not; they pass on what they get as they get it, so that an answer comes before the next line is written.
-filter() { # NAME
-    cat | "$top/target/bin/$1" | cat
+filter() { # NAME [ARGUMENT...]
+    cat | "$top/target/bin/$1" "${@:2}" | cat
     judge "${PIPESTATUS[@]}"
 }
 

@@ -3,7 +3,8 @@ import java.util.OptionalLong;
 
 /**
  * Document 01's day through libekhurtza, by JNI: each answer as gateday prints it, then the listing, on standard output. On standard error the same
- * day as call lines, then the group's room and the listing read back. docs/EMBEDDING.md has the commands that build and run it (Java 17 or later).
+ * day as call lines, then the group's room and the listing read back. The gate is loaded with document 01's own ratios, which changes no answer.
+ * docs/EMBEDDING.md has the commands that build and run it (Java 17 or later).
  */
 public final class Day {
     private static final long[][] DAY = {
@@ -36,6 +37,7 @@ public final class Day {
     public static void main(String[] arguments) {
         PrintStream out = System.out, more = System.err;
         Gate gate = new Gate(2048);
+        if (gate.load(" 1   5   2\n 3   1   1\n 4   1   1\n") != 0) throw new IllegalStateException("document 01's ratios are refused");
         for (long[] call : DAY) {
             String line = Gate.callLine(call[0], call[1], call[2], call[3], call[4]);
             more.print(line);

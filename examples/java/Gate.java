@@ -36,6 +36,12 @@ public final class Gate {
         accept(open(register, book, places));
     }
 
+    /** A ratio file, before the first group is enrolled: 0, 2 or 23. Quotas follow from bases by it from then on. */
+    public synchronized long load(String text) {
+        byte[] bytes = text.getBytes(StandardCharsets.ISO_8859_1);
+        return load(register, book, places, ByteBuffer.allocateDirect(bytes.length).put(bytes));
+    }
+
     public synchronized Answer call(long code, long a, long b, long c, long d) {
         return answer(call(register, book, places, code, a, b, c, d));
     }
@@ -111,6 +117,7 @@ public final class Gate {
     }
 
     private static native long open(ByteBuffer register, ByteBuffer book, ByteBuffer places);
+    private static native long load(ByteBuffer register, ByteBuffer book, ByteBuffer places, ByteBuffer text);
     private static native long call(ByteBuffer register, ByteBuffer book, ByteBuffer places, long code, long a, long b, long c, long d);
     private static native long listing(ByteBuffer register, ByteBuffer book, ByteBuffer places, ByteBuffer buffer);
     private static native long room(ByteBuffer register, ByteBuffer book, ByteBuffer places, long group, ByteBuffer words);

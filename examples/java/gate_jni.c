@@ -34,6 +34,13 @@ JNIEXPORT jlong JNICALL Java_Gate_open(JNIEnv *env, jclass gate, GATE_BUFFERS) {
     return (jlong)ekhurtza_open(LENT);
 }
 
+JNIEXPORT jlong JNICALL Java_Gate_load(JNIEnv *env, jclass gate, GATE_BUFFERS, jobject text_buffer) {
+    GATE;
+    struct slice text = lent(env, text_buffer);
+    (void)gate;
+    return (jlong)ekhurtza_load(LENT, SLICE(uint8_t, text));
+}
+
 JNIEXPORT jlong JNICALL Java_Gate_call(JNIEnv *env, jclass gate, GATE_BUFFERS, jlong code, jlong a, jlong b, jlong c, jlong d) {
     GATE;
     (void)gate;
