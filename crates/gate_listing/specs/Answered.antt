@@ -77,7 +77,6 @@ module _ (lent : Memory) where
         × (Lists (enrols 64) 6_912 0)
     -- "a longer one keeps its tail" (Refusal list)
     pub tail : Leaves morning (replicate 111 7) (bytes "    1 1       8       5                    0                    0                    0                    0\n" ++ (7 ∷ 7 ∷ 7 ∷ []))
-
     -- "listing rows, written or read, may show maximum 0 from now on" (2026-01)
     pub zero-shown : (listRefusal (runAll shanghai (opened lent) nil) 108 ≡ 0)
         × (listed (runAll shanghai (opened lent) nil) (replicate 108 7) ≡ bytes "    1 4       0       0                    0                    0                    0                    0\n")

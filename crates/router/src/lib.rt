@@ -93,7 +93,12 @@ pub extern "C" fn ekhurtza_call(
 
 // A file of ratios by its text (2026-01): 1, 2 or 23, or 0 and the register has its table.
 #[no_mangle]
-pub extern "C" fn ekhurtza_load(register: &mut [u32], book: &[u64], places: &[u64], text: &[u8]) -> u64
+pub extern "C" fn ekhurtza_load(
+    register: &mut [u32],
+    book: &[u64],
+    places: &[u64],
+    text: &[u8],
+) -> u64
     ensures { λ r. ⌜ (r ≡ (stepEntry shanghai (memory (now (register .entry)) (now (book .entry)) (now (places .entry))) (Loaded (fileIn (now (text .entry))))) .answer .refusal)
         × (memory (now (register .exit)) (now (book .entry)) (now (places .entry)) ≡ (stepEntry shanghai (memory (now (register .entry)) (now (book .entry)) (now (places .entry))) (Loaded (fileIn (now (text .entry))))) .memory) ⌝ }
 {

@@ -2,7 +2,8 @@
 ghost use mathlib.Core.Path.{_≡_};
 ghost use Rattle.rules.specs.Refusals.{refusal};
 ghost use Rattle.rules.specs.Loads.{lineInRange, fileInRange, inOrder, loadRules};
-use rules::limits::MANAGEMENT;
+use rules::limits::ASSET_MANAGEMENT;
+use rules::limits::INSTITUTION;
 use rules::limits::PROPRIETARY;
 use rules::limits::TOP_CLASS;
 use rules::limits::TOP_RATIO;
@@ -40,7 +41,7 @@ fn in_order(file: RatioFile) -> bool
     let one = file.first;
     let two = file.second;
     let three = file.third;
-    (one.class == PROPRIETARY) & ((two.class == MANAGEMENT) & (three.class == TOP_CLASS))
+    (one.class == PROPRIETARY) & ((two.class == ASSET_MANAGEMENT) & (three.class == INSTITUTION))
 }
 
 // 2 where a formed file has a number outside its range; 23 where it is not of its form, or a group is enrolled.

@@ -1,7 +1,7 @@
 // "Quotas": what follows from a base, the own quota in force, and the close's rule.
 ghost use mathlib.Core.Path.{_≡_};
 ghost use Rattle.rules.specs.Quotas.{ratioOf, quotaAt, quotaBy, inForce, ownQuota, regularMaximum, maximumAtClose, emergencyAtClose, ownAtClose, closedQuota, flagDue, isNone};
-use rules::limits::MANAGEMENT;
+use rules::limits::ASSET_MANAGEMENT;
 use rules::limits::PROPRIETARY;
 use rules::limits::TOP_QUOTA;
 use rules::limits::TOP_RATIO;
@@ -31,7 +31,7 @@ fn ratio_of(ratios: Ratios, class: u64) -> Ratio
         let proprietary = ratios.proprietary;
         return proprietary;
     }
-    if class == MANAGEMENT {
+    if class == ASSET_MANAGEMENT {
         let management = ratios.management;
         return management;
     }

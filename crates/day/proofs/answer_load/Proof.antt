@@ -19,7 +19,7 @@ same-length c = search needs
 
 -- src/lib.rt:179:9
 returns : tie.Need-returns
-returns c = 
+returns c =
     let a = c .before .before .before .before .before .before .before .before .before .before .args in
     load-short (memory (now (a .register)) (now (a .book)) (now (a .places))) (now (a .file)) (now (a .out)) _ (c .if1 .taken) (c .before .before .before .load .ensures .1)
 
@@ -37,7 +37,7 @@ same-length-3 c = search needs
 
 -- src/lib.rt:168:1
 returns-2 : tie.Need-returns-2
-returns-2 c = 
+returns-2 c =
     let a = c .before .before .before .before .before .before .before .before .before .before .before .before .before .before .args in
     load-printed (memory (now (a .register)) (now (a .book)) (now (a .places))) (now (a .file)) (now (a .out)) _ _ _ (c .before .before .before .before .if1 .left) (c .before .before .before .before .before .before .before .load .ensures .0) (c .before .before .before .before .before .before .before .load .ensures .1) (c .before .before .put-printed .ensures)
 
