@@ -1,5 +1,6 @@
-// The self check in columns: every figure of the enrolled groups and of the attached units is in its range, and so are the counts and the ratios. Three loops without early exit
-// beside the ratios': the seven scalars of a group, a declarer with its figure, a unit with its group. Each loop reads neighbours in memory, so the compiler takes four at a time.
+// The self check in columns: every figure of the enrolled groups and of the attached units is in its range, and so are the counts and the ratios. Three loops
+// without early exit beside the ratios': the seven scalars of a group, a declarer with its figure, a unit with its group. Each loop reads neighbours in memory,
+// so the compiler takes four at a time.
 ghost use mathlib.Core.Path.{_≡_};
 ghost use Prim.Native.Nat.{_≤_, _<_};
 ghost use lib.ListN.{length};

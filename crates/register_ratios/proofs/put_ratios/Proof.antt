@@ -1,35 +1,26 @@
+-- `register_ratios::put_ratios` meets its contract. Assumes nothing.
 use borrow.Author.Needs.{needs}
 use Rattle.register_ratios.proofs.put_ratios.Statement.{statement}
 use Rattle.register_ratios.proofs.put_ratios.Tie as tie
-use Rattle.register_ratios.proofs.put_ratios.Reads as reads
-use Rattle.register_ratios.proofs.put_ratios.Lts as lts
-use Rattle.register_ratios.proofs.put_ratio.Reads as put-ratio-reads
 
--- src/lib.rt:62:5
 put-ratio-requires : tie.Need-put-ratio-requires
 put-ratio-requires c κs = search needs
 
--- src/lib.rt:63:25
 add-put-ratio : tie.Need-add-put-ratio
 add-put-ratio c = search needs
 
--- src/lib.rt:63:5
 put-ratio-requires-2 : tie.Need-put-ratio-requires-2
 put-ratio-requires-2 c κs = search needs
 
--- src/lib.rt:64:25
 add-put-ratio-2 : tie.Need-add-put-ratio-2
 add-put-ratio-2 c = search needs
 
--- src/lib.rt:64:5
 put-ratio-requires-3 : tie.Need-put-ratio-requires-3
 put-ratio-requires-3 c κs = search needs
 
--- src/lib.rt:56:1
 same-length : tie.Need-same-length
 same-length c = search needs
 
--- src/lib.rt:56:1
 returns : tie.Need-returns
 returns c = rw (c .before .before .put-ratio3 .ensures, c .before .before .before .before .before .before .put-ratio2 .ensures, c .before .before .before .before .before .before .before .before .before .before .put-ratio .ensures)
 

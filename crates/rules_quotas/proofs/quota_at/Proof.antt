@@ -1,3 +1,4 @@
+-- `rules_quotas::quota_at` meets its contract. Assumes nothing.
 use Prim.Native.Nat.{_*_, min}
 use mathlib.Core.Path.{ap, sym, _∙_}
 use native.Mathlib.Omega.{arith}
@@ -7,49 +8,36 @@ use Rattle.rules_quotas.proofs.Ratios.{product-most, over-none}
 use borrow.Author.Needs.{needs}
 use Rattle.rules_quotas.proofs.quota_at.Statement.{statement}
 use Rattle.rules_quotas.proofs.quota_at.Tie as tie
-use Rattle.rules_quotas.proofs.quota_at.Reads as reads
-use Rattle.rules_quotas.proofs.quota_at.Lts as lts
-use Rattle.rules.proofs.limits.smaller.Reads as smaller-reads
 
--- src/lib.rt:47:9
 smaller-requires : tie.Need-smaller-requires
 smaller-requires c κs = search needs
 
--- src/lib.rt:48:9
 smaller-requires-2 : tie.Need-smaller-requires-2
 smaller-requires-2 c κs = search needs
 
--- src/lib.rt:49:9
 smaller-requires-3 : tie.Need-smaller-requires-3
 smaller-requires-3 c κs = search needs
 
--- src/lib.rt:51:9
 returns : tie.Need-returns
 returns c =
     let a = c .before .before .before .before .args in
     ap millions (sym (over-none (min (a .base .0) topQuota * min (a .ratio .numerator) topRatio) (min (a .ratio .denominator) topRatio) (sym (c .before .smaller3 .ensures) ∙ c .if1 .taken)))
 
--- src/lib.rt:53:20
 mul-t7 : tie.Need-mul-t7
 mul-t7 c = omega (arith, rw (← c .before .before .before .smaller .ensures, ← c .before .before .smaller2 .ensures) at (product-most (c .before .before .before .before .args .base .0) (c .before .before .before .before .args .ratio .numerator)))
 
--- src/lib.rt:53:15
 mul-t8 : tie.Need-mul-t8
 mul-t8 c = omega (arith, rw (← c .before .before .before .smaller .ensures, ← c .before .before .smaller2 .ensures) at (product-most (c .before .before .before .before .args .base .0) (c .before .before .before .before .args .ratio .numerator)))
 
--- src/lib.rt:53:15
 add-t9 : tie.Need-add-t9
 add-t9 c = omega (arith, rw (← c .before .before .before .smaller .ensures, ← c .before .before .smaller2 .ensures) at (product-most (c .before .before .before .before .args .base .0) (c .before .before .before .before .args .ratio .numerator)))
 
--- src/lib.rt:53:41
 mul-t10 : tie.Need-mul-t10
 mul-t10 c = search needs
 
--- src/lib.rt:53:14
 div-t11 : tie.Need-div-t11
 div-t11 c = search needs
 
--- src/lib.rt:44:1
 returns-2 : tie.Need-returns-2
 returns-2 c = rw (c .before .before .before .smaller .ensures, c .before .before .smaller2 .ensures, c .before .smaller3 .ensures)
 

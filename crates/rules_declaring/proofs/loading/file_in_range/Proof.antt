@@ -1,23 +1,17 @@
+-- `rules_declaring::loading::file_in_range` meets its contract. Assumes nothing.
 use borrow.Author.Needs.{needs}
 use Rattle.rules_declaring.proofs.loading.file_in_range.Statement.{statement}
 use Rattle.rules_declaring.proofs.loading.file_in_range.Tie as tie
-use Rattle.rules_declaring.proofs.loading.file_in_range.Reads as reads
-use Rattle.rules_declaring.proofs.loading.file_in_range.Lts as lts
-use Rattle.rules_declaring.proofs.loading.line_in_range.Reads as line-in-range-reads
 
--- src/loading.rt:30:9
 line-in-range-requires : tie.Need-line-in-range-requires
 line-in-range-requires c κs = search needs
 
--- src/loading.rt:31:9
 line-in-range-requires-2 : tie.Need-line-in-range-requires-2
 line-in-range-requires-2 c κs = search needs
 
--- src/loading.rt:32:9
 line-in-range-requires-3 : tie.Need-line-in-range-requires-3
 line-in-range-requires-3 c κs = search needs
 
--- src/loading.rt:24:1
 returns : tie.Need-returns
 returns c = rw (c .line-in-range3 .ensures, c .before .line-in-range2 .ensures, c .before .before .line-in-range .ensures)
 
