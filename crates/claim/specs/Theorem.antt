@@ -34,7 +34,7 @@ use Rattle.rules.specs.declared.calls.Answer.{Answer}
 use Rattle.history.specs.Past.{History, atOpening, inGroup, moneyIn, moneyOf, netIn}
 use Rattle.history.specs.Past as past
 use Rattle.history.specs.Answers.{isAttached, groupOf, orderReads, refusalOf, refusals, numberGiven, answer}
-use Rattle.history.specs.Runs.{accept, next, after, answers, Entry, Called, Loaded, calls, withTable, loadRefusal, entryRefusal, nextEntry, answerEntry, afterAll, answersAll}
+use Rattle.history.specs.Runs.{accept, next, after, Entry, Called, Loaded, calls, withTable, loadRefusal, entryRefusal, nextEntry, answerEntry, afterAll, answersAll, after-calls}
 use Rattle.history.specs.Laws.{never-unsound-entry}
 use Rattle.quota.specs.Asks as asks
 use Rattle.quota.specs.Calls as quota
@@ -260,19 +260,6 @@ module _ (N : ℕ) (rule : Rule) (h : History) (m : Memory) (s : Sim N h m) wher
   steps (Cancel number) = cancel-steps number
   steps Close = close-steps
 
-module _ (N : ℕ) (rule : Rule) where
-  pub run-sim : (cs : List Call) (h : History) (m : Memory) → Sim N h m → Sim N (after N rule h cs) (run rule m cs)
-  unfolding after run
-  run-sim [] h m s = s
-  run-sim (c ∷ cs) h m s = run-sim cs (next N rule h c) ((step rule m c) .memory) (steps N rule h m s c .sim)
-
-  pub run-answers : (cs : List Call) (h : History) (m : Memory) → Sim N h m → answersOf rule m cs ≡ answers N rule h cs
-  unfolding answersOf answers
-  run-answers [] h m s = refl
-  run-answers (c ∷ cs) h m s =
-      let t = steps N rule h m s c in
-      rw (t .same, run-answers cs (next N rule h c) ((step rule m c) .memory) (t .sim))
-
 -- ---- entries: calls, and loads
 
 pub record Entered (N : ℕ) (rule : Rule) (h : History) (m : Memory) (e : Entry) : Type 0 where
@@ -326,6 +313,10 @@ module _ (rule : Rule) where
   unfolding answersOfAll answersOf calls stepEntry
   answers-of-calls m [] = refl
   answers-of-calls m (c ∷ cs) = ap (λ (l : List Answer). (step rule m c) .answer ∷ l) (answers-of-calls ((step rule m c) .memory) cs)
+
+module _ (N : ℕ) (rule : Rule) where
+  pub run-sim : (cs : List Call) (h : History) (m : Memory) → Sim N h m → Sim N (after N rule h cs) (run rule m cs)
+  run-sim cs h m s = rw (← after-calls N rule h cs, ← run-calls rule m cs) (all-sim N rule (calls cs) h m s)
 
 -- ---- the opening
 
