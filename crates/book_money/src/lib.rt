@@ -1,4 +1,6 @@
 // A group's money since the close, in mils: open buys, bought, sold. Net is never stored.
+#![tactic(auto)]
+
 ghost use Rattle.std.specs.Prelude.{◌≡◌};
 ghost use Rattle.book.specs.Layout.{accepted_of, places_of, no_money, money_at, put_money, put_accepted};
 

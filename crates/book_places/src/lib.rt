@@ -1,4 +1,6 @@
 // An order's place: the group that it belongs to, its kind, its price, its open quantity.
+#![tactic(auto)]
+
 ghost use Rattle.std.specs.Prelude.{◌≡◌};
 ghost use Rattle.book.specs.Layout.{place_at, put_place, put_open};
 

@@ -5,7 +5,7 @@ ghost use Rattle.callfile.specs.Lines.{coded as codedOf, words_of, fields as fie
 use columns_powers::fits;
 use rules::calls::Call;
 
-#[derive(Drop)]
+#[derive(Clone, Copy)]
 pub struct Words {
     pub code: u64,
     pub first: u64,

@@ -1,4 +1,6 @@
 // Numbers read from columns of a text: plain, optional and signed.
+#![tactic(auto)]
+
 ghost use Rattle.std.specs.Prelude.{◌≡◌, not, ◌||◌, ◌+◌, ◌≤◌, eqb, leb, length, get_or};
 ghost use Rattle.columns.specs.Column.{dashed, number, same, minus, part, read_plain, plain_at, optional_at, signed_at};
 ghost use Rattle.columns.specs.Scan.{blanks, is_digit, all_digits};

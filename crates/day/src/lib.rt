@@ -1,4 +1,6 @@
 // The part of gateday that decides: call lines in, answers out, over slices. The program around it only reads and writes.
+#![tactic(auto)]
+
 ghost use Rattle.std.specs.Prelude.{◌≡◌, true, ◌+◌, ◌-◌, ◌≤◌, min, length, take, drop};
 ghost use Rattle.std.proofs.Math.Seq.{paste};
 ghost use Rattle.claim.specs.Step.{memory};
@@ -109,7 +111,7 @@ fn answer_at(
 }
 
 // How far the lines of a text were answered: bytes of the text used, bytes written.
-#[derive(Drop)]
+#[derive(Clone, Copy)]
 pub struct Progress {
     pub used: usize,
     pub written: usize,

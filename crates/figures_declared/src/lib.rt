@@ -1,5 +1,7 @@
 // The standing figures of one group: "The last figure of each declarer stands; at most eight declarers a group have a
 // figure standing, and a withdrawn place is used again" (document 01, Quotas). Held by value, searched, replaced, summed.
+#![tactic(auto)]
+
 ghost use Rattle.std.specs.Prelude.{◌≡◌, ◌≤◌, ◌<◌, leb, length, take};
 ghost use Rattle.rules.specs.Keyed.{find, is_there};
 ghost use Rattle.rules.specs.Limits.{most_declarers};

@@ -1,5 +1,7 @@
 // Calls 1 to 7 and the close over all of a gate's memory: 1 where a figure of the book is out of its range, or N is another than at opening.
 // The register's own figures are checked by the quota layer's call, so that nothing is checked twice.
+#![tactic(auto)]
+
 ghost use Rattle.std.specs.Prelude.{◌≡◌};
 ghost use Rattle.claim.specs.Step.{book_sound, memory, on_register, enrolling, closing_sound};
 ghost use Rattle.rules.specs.Refusals.{answered};

@@ -1,4 +1,6 @@
 // The gate's listing, written into a lent buffer.
+#![tactic(auto)]
+
 ghost use Rattle.std.specs.Prelude.{◌≡◌, true, ◌*◌, ◌-◌, ◌≤◌, length};
 ghost use Rattle.std.proofs.Math.Seq.{paste};
 ghost use Rattle.listing.specs.Text.{listing_text, fresh, rows_kept, row_bytes};

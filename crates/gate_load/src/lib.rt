@@ -1,5 +1,7 @@
 // A load: the text of a file of ratios, read and loaded into a lent gate (2026-01). What a text says is in ratiofile/specs/File.antt, what a load answers
 // and leaves in claim/specs/Step.antt: stepEntry.
+#![tactic(auto)]
+
 ghost use Rattle.std.specs.Prelude.{◌≡◌};
 ghost use Rattle.rules.specs.Orders.{shanghai};
 ghost use Rattle.history.specs.Runs.{Loaded};

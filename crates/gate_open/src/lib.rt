@@ -1,4 +1,6 @@
 // The opening: a fresh gate in a lent register and book of any content. No place is written.
+#![tactic(auto)]
+
 ghost use Rattle.std.specs.Prelude.{◌≡◌};
 ghost use Rattle.claim.specs.Opening.{open_refusal, open_register, open_book};
 ghost use Rattle.claim.specs.Step.{memory};

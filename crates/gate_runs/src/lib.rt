@@ -1,4 +1,6 @@
 // A lent list of calls, run in order: five words a call, code and four fields; two words an answer, refusal and number.
+#![tactic(auto)]
+
 ghost use Rattle.std.specs.Prelude.{◌≡◌, [], ◌∷◌, ◌+◌, ◌*◌, ◌≤◌, length};
 ghost use Rattle.rules.specs.Orders.{shanghai};
 ghost use Rattle.words.specs.Words.{stored};

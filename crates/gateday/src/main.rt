@@ -1,6 +1,8 @@
 // gateday: call lines from standard input, an answer for each on standard output, and at the end the listing. N is 2,048. `gateday --ratios FILE` loads a file of
 // ratios first and prints its answer before all others (2026-01); with any other arguments nothing is read or printed.
 // What is answered and listed is decided in `day` and `gate_listing`; here is only reading and writing.
+#![tactic(auto)]
+
 ghost use Rattle.std.specs.Prelude.{◌≡◌, ◌+◌, ◌≤◌, length, drop};
 ghost use Rattle.claim.specs.Step.{memory};
 ghost use Rattle.day.specs.Day.{told_in};

@@ -13,7 +13,7 @@ use rules::quotas::Limit;
 pub const ROW: usize = 108;
 
 // What a line says: the row of its columns, and whether the line is that row's text and the row keeps its rules.
-#[derive(Drop)]
+#[derive(Clone, Copy)]
 pub struct Line {
     pub good: bool,
     pub row: Row,

@@ -2,7 +2,7 @@
 use rows::Row;
 
 // What stands at a place of a text: a row, something else, or too few bytes for a row.
-#[derive(Drop)]
+#[derive(Clone, Copy)]
 pub enum Step {
     Next(Row),
     Broken,

@@ -1,5 +1,7 @@
 // The rooms of a listing as text: the whole text is checked by the reader, then each row that it hands out gives a line. What each function means is in
 // listing/specs/Rooms.antt.
+#![tactic(auto)]
+
 ghost use Rattle.std.specs.Prelude.{◌≡◌, true, ◌+◌, ◌*◌, ◌≤◌, ◌<◌, length, get_or, take};
 ghost use Rattle.std.proofs.Math.Seq.{paste};
 ghost use Rattle.rows.specs.Row.{row_kept, no_row};

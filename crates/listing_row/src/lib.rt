@@ -1,4 +1,6 @@
 // One row of a listing read from its line of 108 bytes. What a line says is in listing/specs/Text.antt.
+#![tactic(auto)]
+
 ghost use Rattle.std.specs.Prelude.{◌≡◌};
 ghost use Rattle.listing.specs.Text.{limit_of, read_line};
 

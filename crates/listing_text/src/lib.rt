@@ -1,4 +1,6 @@
 // A whole text of rows: checked, and each row by its place.
+#![tactic(auto)]
+
 ghost use Rattle.std.specs.Prelude.{◌≡◌, ◌+◌, ◌*◌, ◌≤◌, length, drop};
 ghost use Rattle.columns.specs.Column.{part};
 ghost use Rattle.listing.specs.Text.{row_in, read_line, fresh, rows_from, is_listing, refusal_of_text, step_at, step_in, next_at, row_bytes};

@@ -42,7 +42,7 @@ fn reads_of_place(book: &[u64], places: &[u64], order: u64) -> PlaceReads
 }
 
 // The host's 1 and the list of call 8, and the unit's group, so that the unit is searched for once.
-#[derive(Drop)]
+#[derive(Clone, Copy)]
 pub struct Listed {
     pub refusal: u64,
     pub group: u64,

@@ -1,4 +1,6 @@
 // What calls 8 to 11 make of the book: amounts, money held to L, and the book after the close. What each means is in orders/specs.
+#![tactic(auto)]
+
 ghost use Rattle.std.specs.Prelude.{◌≡◌};
 ghost use Rattle.rules.specs.Sums.{when};
 ghost use Rattle.orders.specs.Booking.{amount_in_range, money_fits, booking};

@@ -1,4 +1,6 @@
 // Call 10. A refused cancel answers its number and leaves book and places as they were, word for word.
+#![tactic(auto)]
+
 ghost use Rattle.std.specs.Prelude.{◌≡◌, ◌≤◌};
 ghost use Rattle.rules.specs.Limits.{top_price, top_quantity};
 ghost use Rattle.rules.specs.Refusals.{answered};

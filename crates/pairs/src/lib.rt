@@ -1,5 +1,7 @@
 // Pairs (key, value) in two columns of words that the host lends: a key found, a word taken out of a column with the order kept. Nothing of the paper.
 // Blocks of eight keys are looked at whole, which the compiler does in four instructions, and only a block that has the key is walked.
+#![tactic(auto)]
+
 ghost use Rattle.std.specs.Prelude.{◌≡◌, not, ◌+◌, ◌≤◌, min, eqb, length, get_or};
 ghost use Rattle.words.specs.Each.{all_below};
 ghost use Rattle.pairs.specs.Pairs.{place_of, Lacks, removed_word};

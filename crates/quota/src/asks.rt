@@ -30,7 +30,7 @@ pub fn is_enrolled(register: &[u32], group: u64) -> bool
 }
 
 // Whether a unit is attached, and its group, 0 where it is not.
-#[derive(Drop)]
+#[derive(Clone, Copy)]
 pub struct Attachment {
     pub attached: bool,
     pub group: u64,

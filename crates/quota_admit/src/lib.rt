@@ -1,4 +1,6 @@
 // The refusals of calls 1 to 3 over the register: what the call reads, its list of rules, and 1 where the register is not sound.
+#![tactic(auto)]
+
 ghost use Rattle.std.specs.Prelude.{◌≡◌};
 ghost use Rattle.quota.specs.Reads.{enrol_reads, attach_reads};
 ghost use Rattle.quota.specs.Calls.{enrol_refusal, attach_refusal, detach_refusal};

@@ -1,4 +1,6 @@
 // The close of quotas: maximum, emergency and own quota of every enrolled group.
+#![tactic(auto)]
+
 ghost use Rattle.std.specs.Prelude.{◌≡◌};
 ghost use Rattle.quota.specs.Calls.{closed_below, close_refusal, close_after};
 

@@ -1,4 +1,6 @@
 // Calls 4 to 7: figures declared and withdrawn, a raise, an own quota. A refused call answers its number and leaves the register as it was, word for word.
+#![tactic(auto)]
+
 ghost use Rattle.std.specs.Prelude.{◌≡◌};
 ghost use Rattle.rules.specs.Refusals.{answered};
 ghost use Rattle.quota.specs.Calls.{regular_refusal, regular_after, raise_refusal, raise_after, withdraw_refusal, withdraw_after, own_quota_refusal, own_quota_after};

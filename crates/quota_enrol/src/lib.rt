@@ -1,4 +1,6 @@
 // Calls 1 to 3: a group enrolled, a unit attached or detached. A refused call answers its number and leaves the register as it was, word for word.
+#![tactic(auto)]
+
 ghost use Rattle.std.specs.Prelude.{◌≡◌};
 ghost use Rattle.rules.specs.Refusals.{answered};
 ghost use Rattle.quota.specs.Calls.{enrol_answer, enrol_after, attach_refusal, attach_after, detach_refusal, detach_after};

@@ -1,4 +1,6 @@
 // A load: a file of ratios, as it reads, into the register (2026-01). A refused load answers its number and leaves the register as it was, word for word.
+#![tactic(auto)]
+
 ghost use Rattle.std.specs.Prelude.{◌≡◌};
 ghost use Rattle.rules.specs.Refusals.{answered};
 ghost use Rattle.rules.specs.Quotas.{ratio};

@@ -1,4 +1,6 @@
 // A group's record changed: one part anew, the rest as it was.
+#![tactic(auto)]
+
 ghost use Rattle.std.specs.Prelude.{◌≡◌};
 ghost use Rattle.quota.specs.Groups.{fresh_group, with_quota, with_figures, declared_group, raised_group, filing, filed_group, own_group, closed_group};
 

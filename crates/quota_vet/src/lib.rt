@@ -1,4 +1,6 @@
 // The refusals of calls 4 to 7 over the register: what the call reads, its list of rules, and 1 where the register is not sound.
+#![tactic(auto)]
+
 ghost use Rattle.std.specs.Prelude.{◌≡◌};
 ghost use Rattle.quota.specs.Reads.{group_reads, figure_reads};
 ghost use Rattle.quota.specs.Calls.{regular_refusal, raise_refusal, withdraw_refusal, own_quota_refusal};

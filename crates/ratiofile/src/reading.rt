@@ -2,7 +2,7 @@
 use rules::loads::RatioLine;
 
 // Formed where its columns are numbers and its last byte is a line feed, whatever the numbers.
-#[derive(Drop)]
+#[derive(Clone, Copy)]
 pub struct Line {
     pub formed: bool,
     pub numbers: RatioLine,

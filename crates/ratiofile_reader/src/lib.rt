@@ -1,4 +1,6 @@
 // 2026-01, "Our own ratio table": a file of ratios read. What the function means, for every text, is in ratiofile/specs/File.antt.
+#![tactic(auto)]
+
 ghost use Rattle.std.specs.Prelude.{◌≡◌, length};
 ghost use Rattle.ratiofile.specs.File.{line_bytes, line_in, not_formed, file_in};
 

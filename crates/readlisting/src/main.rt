@@ -1,5 +1,7 @@
 // readlisting: a listing from standard input; for each row its code, class and the room left, or " 21" where the text is no listing. Which text is a
 // listing and what a row's room is, is decided in `listing_text` and `rows_room`; here is only reading and writing.
+#![tactic(auto)]
+
 ghost use Rattle.std.specs.Prelude.{◌≤◌, length};
 
 use listing_rooms::{MOST_ROOMS, write_rooms};

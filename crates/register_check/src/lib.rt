@@ -1,6 +1,8 @@
 // The self check in columns: every figure of the enrolled groups and of the attached units is in its range, and so are the counts and the ratios. Three loops
 // without early exit beside the ratios': the seven scalars of a group, a declarer with its figure, a unit with its group. Each loop reads neighbours in memory,
 // so the compiler takes four at a time.
+#![tactic(auto)]
+
 ghost use Rattle.std.specs.Prelude.{◌≡◌, ◌≤◌, ◌<◌, length};
 ghost use Rattle.words.specs.Each.{all_below};
 ghost use Rattle.register.specs.Check.{unit_ok, ratio_ok, register_ok};

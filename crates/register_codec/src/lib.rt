@@ -1,4 +1,6 @@
 // The words of a maximum, an own quota and an emergency raise in a record of the register, and back.
+#![tactic(auto)]
+
 ghost use Rattle.std.specs.Prelude.{◌≡◌};
 ghost use Rattle.register.specs.Layout.{limit_of, limit_word, emergency_of, holder_word, figure_word};
 

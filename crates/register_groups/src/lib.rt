@@ -1,4 +1,6 @@
 // A group's record: code, class, quota and figures, read from its words and put into them.
+#![tactic(auto)]
+
 ghost use Rattle.std.specs.Prelude.{◌≡◌, not, [], length, ◌<◌};
 ghost use Rattle.register.specs.Layout.{place as place_of, record_at, put_words, figures_of, group_of, words_of, group_at, put_group, group_count, add_group, is_group, is_taken, record_words, register_length};
 ghost use Rattle.words.specs.Each.{all_below};

@@ -1,4 +1,6 @@
 // The table of ratios of a register: six words of its header, read and put (2026-01).
+#![tactic(auto)]
+
 ghost use Rattle.std.specs.Prelude.{◌≡◌, ◌+◌, ◌<◌, get_or, set};
 ghost use Rattle.rules.specs.Quotas.{ratio as ratio_of};
 ghost use Rattle.register.specs.Layout.{held, first_declarer, ratios_of, put_ratio, put_ratios};

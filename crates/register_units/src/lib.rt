@@ -1,4 +1,6 @@
 // The attached units, each with its group: a keyed list in two columns.
+#![tactic(auto)]
+
 ghost use Rattle.std.specs.Prelude.{◌≡◌};
 ghost use Rattle.rules.specs.Keyed.{find, is_there, or_else};
 ghost use Rattle.register.specs.Layout.{unit_count, units_of, add_unit, remove_unit};
@@ -26,7 +28,7 @@ pub fn is_attached(register: &[u32], unit: u64) -> bool
 }
 
 // Whether a unit is attached, and its group, 0 where it is not: one search.
-#[derive(Drop)]
+#[derive(Clone, Copy)]
 pub struct Found {
     pub attached: bool,
     pub group: u64,

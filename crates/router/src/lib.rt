@@ -1,6 +1,8 @@
 // The gate for order routers: eight functions over memory that the router lends, thin over the proved layers below. Each takes
 // memory of any content and any length; docs/EMBEDDING.md says how large it should be and what the caller owes. What a router may count on
 // beyond the eight contracts is proved in specs/: Safe.antt, Rows.antt, RoomLaws.antt, TextLaws.antt and LineLaws.antt.
+#![tactic(auto)]
+
 pub mod puts; // rows and rooms put into lent words
 
 ghost use Rattle.std.specs.Prelude.{◌≡◌, length};
@@ -43,7 +45,7 @@ const ROOM_WORDS: usize = 2;
 
 // The refusal number, or 0; and the group or order number given, or a listing's bytes, else 0.
 #[repr(C)]
-#[derive(Drop)]
+#[derive(Clone, Copy)]
 pub struct Answer {
     pub refusal: u64,
     pub number: u64,

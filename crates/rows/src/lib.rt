@@ -1,5 +1,7 @@
 // The row of a group, as a listing has it: read from the lent memory, refused where there is none or where it would break its rules.
 // Nothing is written. Net, which is signed, is handed out as sign and size.
+#![tactic(auto)]
+
 ghost use Rattle.std.specs.Prelude.{◌≡◌, true};
 ghost use Rattle.orders.specs.Booking.{money_fits};
 ghost use Rattle.rows.specs.Row.{signed_net, made_row, class_kept, at_most, limits_kept, row_obeys, agree as agreeOf, net_kept, row_kept, refused_row, shown_row, row_refusal, row_at, row_of};
@@ -17,14 +19,14 @@ use rules::refusals::{NOT_THERE, OUT_OF_RANGE, UNSOUND, first};
 use rules_quotas::is_none;
 
 // Net as sign and size: below 0, or not.
-#[derive(Drop)]
+#[derive(Clone, Copy)]
 pub struct Net {
     pub below: bool,
     pub size: Mils,
 }
 
 // The row of a group: its own quota is the one in force; net is the size, below 0 where `below`.
-#[derive(Drop)]
+#[derive(Clone, Copy)]
 pub struct Row {
     pub code: u64,
     pub class: u64,
@@ -36,14 +38,14 @@ pub struct Row {
 }
 
 // The room left to a group: own quota − net. Not given where the maximum is none.
-#[derive(Drop)]
+#[derive(Clone, Copy)]
 pub struct Room {
     pub given: bool,
     pub left: Net,
 }
 
 // A row read: the refusal, or 0, and the row, or one of zeros.
-#[derive(Drop)]
+#[derive(Clone, Copy)]
 pub struct RowRead {
     pub refusal: u64,
     pub row: Row,

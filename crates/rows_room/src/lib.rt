@@ -1,5 +1,7 @@
 // The room left to a group, worked out of its row: own quota − net, in mils. What it means, and that a buy passes exactly where there is room, is in
 // rows/specs/Room.antt.
+#![tactic(auto)]
+
 ghost use Rattle.std.specs.Prelude.{◌≡◌};
 ghost use Rattle.rows.specs.Room.{difference as differenceOf, room_under, room_of};
 

@@ -1,4 +1,6 @@
 // "Orders": one match on the kind decides the side, the price rule and the worse-fill test; and when a buy is accepted.
+#![tactic(auto)]
+
 ghost use Rattle.std.specs.Prelude.{◌≡◌, ◌+◌, ◌≤◌, ◌<◌, leb};
 ghost use Rattle.rules.specs.Limits.{is_price};
 ghost use Rattle.rules.specs.Orders.{is_buy, price_rule, worse_fill, decided_by, net_of, shanghai, stops};

@@ -1,4 +1,6 @@
 // "Quotas": what follows from a base, the own quota in force, and the close's rule.
+#![tactic(auto)]
+
 ghost use Rattle.std.specs.Prelude.{◌≡◌};
 ghost use Rattle.rules.specs.Quotas.{ratio_of, quota_at, quota_by, in_force, own_quota, regular_maximum, maximum_at_close, emergency_at_close, own_at_close, closed_quota, flag_due, is_none};
 

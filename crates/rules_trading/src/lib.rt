@@ -1,4 +1,6 @@
 // The refusals of calls 8 to 10, orders, fills and cancels, each over what the call reads.
+#![tactic(auto)]
+
 ghost use Rattle.std.specs.Prelude.{◌≡◌};
 ghost use Rattle.rules.specs.Orders.{shanghai};
 ghost use Rattle.rules.specs.Calls.{in_range};

@@ -1,4 +1,6 @@
 // Runs of words in a memory that the host lends: a word read, a run of words stored. Nothing of the paper.
+#![tactic(auto)]
+
 ghost use Rattle.std.specs.Prelude.{◌≡◌, ◌<◌, min, get_or};
 ghost use Rattle.words.specs.Words.{stored};
 
