@@ -3,11 +3,14 @@
 // What is answered and listed is decided in `day` and `gate_listing`; here is only reading and writing.
 #![tactic(auto)]
 
+mod sink; // what is printed, until a write fails
+
 ghost use Rattle.std.specs.Prelude.{◌≡◌, ◌+◌, ◌≤◌, length, drop};
 ghost use Rattle.claim.specs.Step.{memory};
 ghost use Rattle.day.specs.Day.{told_in};
 ghost use Rattle.day.specs.Pieces.{Done};
 
+use crate::sink::Sink;
 use book::layout::{BOOK, PLACE_WORDS};
 use columns::bytes::same_at;
 use day::{answer_lines, answer_load, answer_rest, keep_rest};
@@ -18,19 +21,13 @@ use quota::asks::groups_enrolled;
 use ratiofile::layout::FILE_BYTES;
 use register::layout::REGISTER;
 use std::env::{Env, FillError};
-use std::fs;
 use std::io::{Read, Write};
+use std::process::ExitCode;
 use std::rt::Files;
+use std::{fs, io};
 
 // "Program `gateday` has N = 2,048": so many places, in words. (Lines and columns)
 const PLACES: usize = PLACE_WORDS * 2048;
-
-// The first n bytes, to the sink. A write that fails is let be: whoever runs the program sees that less came than was to come.
-fn print<W: Write>(sink: &mut W, bytes: &[u8], n: usize) {
-    if n <= bytes.len() {
-        let _ = sink.write_all(&bytes[0..n]);
-    }
-}
 
 // One read into the buffer behind its first `filled` bytes. Answers how many bytes the buffer then has; no more than before at the input's end.
 fn read_behind<R: Read>(source: &mut R, input: &mut [u8], filled: usize) -> usize
@@ -46,7 +43,7 @@ fn read_behind<R: Read>(source: &mut R, input: &mut [u8], filled: usize) -> usiz
 
 // The lines of the text from `from` on, as many as there is room for answers, answered and printed. Answers how many bytes they took.
 fn print_some<W: Write>(
-    sink: &mut W,
+    sink: &mut Sink<W>,
     register: &mut [u32],
     book: &mut [u64],
     places: &mut [u64],
@@ -60,13 +57,13 @@ fn print_some<W: Write>(
         × ((memory register.new book.new places.new) ≡ (told_in out.old (memory register.old book.old places.old) (drop from text.now)).memory) }
 {
     let progress = answer_lines(register, book, places, &text[from..text.len()], out);
-    print(sink, out, progress.written);
+    sink.print(out, progress.written);
     progress.used
 }
 
 // Every whole line of the text answered and printed. Answers how many bytes they took.
 fn print_lines<W: Write>(
-    sink: &mut W,
+    sink: &mut Sink<W>,
     register: &mut [u32],
     book: &mut [u64],
     places: &mut [u64],
@@ -89,7 +86,7 @@ fn print_lines<W: Write>(
 
 // "and at the end the listing": a line without line feed first, where one is left. (Lines and columns)
 fn print_end<W: Write>(
-    sink: &mut W,
+    sink: &mut Sink<W>,
     register: &[u32],
     book: &[u64],
     places: &[u64],
@@ -97,22 +94,22 @@ fn print_end<W: Write>(
     out: &mut [u8],
 ) {
     let n = answer_rest(rest, out);
-    print(sink, out, n);
+    sink.print(out, n);
     let refusal = write(register, book, places, out);
     if refusal != 0 {
         return;
     }
     let groups = groups_enrolled(register);
     if groups <= 64 {
-        print(sink, out, ROW * (groups as usize));
+        sink.print(out, ROW * (groups as usize));
     }
 }
 
-// The whole source, line by line. A loop has to end, and nothing says that a source does: it counts its turns up to a number that no run
-// reaches.
+// The whole source, line by line, or until a write fails. A loop has to end, and nothing says that a source does: it counts its turns up to a
+// number that no run reaches.
 fn print_day<R: Read, W: Write>(
     source: &mut R,
-    sink: &mut W,
+    sink: &mut Sink<W>,
     register: &mut [u32],
     book: &mut [u64],
     places: &mut [u64],
@@ -129,6 +126,9 @@ fn print_day<R: Read, W: Write>(
             return;
         }
         let used = print_lines(sink, register, book, places, &input[0..held], out);
+        if sink.has_failed() {
+            return;
+        }
         filled = keep_rest(input, used, held);
     }
 }
@@ -187,7 +187,7 @@ fn ratios_named<E: Env + Files>(rt: &E, text: &mut [u8]) -> usize
 // The file of ratios loaded, and its answer printed.
 fn print_load<E: Env + Files, W: Write>(
     rt: &E,
-    sink: &mut W,
+    sink: &mut Sink<W>,
     register: &mut [u32],
     book: &[u64],
     places: &[u64],
@@ -196,7 +196,7 @@ fn print_load<E: Env + Files, W: Write>(
     let mut text = [0u8; MOST_RATIOS];
     let n = ratios_named(rt, &mut text);
     let written = answer_load(register, book, places, &text[0..n], out);
-    print(sink, out, written);
+    sink.print(out, written);
 }
 
 // Whether the program has an argument of this number; 0 is its name.
@@ -219,7 +219,7 @@ fn ratios_asked<E: Env>(rt: &E) -> bool {
 // A file of ratios loaded where one is named. Answers whether the day begins.
 fn begun<E: Env + Files, W: Write>(
     rt: &E,
-    sink: &mut W,
+    sink: &mut Sink<W>,
     register: &mut [u32],
     book: &[u64],
     places: &[u64],
@@ -235,14 +235,14 @@ fn begun<E: Env + Files, W: Write>(
     true
 }
 
-fn main(rt: HostRuntime) {
+fn main(rt: HostRuntime) -> io::Result<ExitCode> {
     let mut register = [0u32; REGISTER];
     let mut book = [0u64; BOOK];
     let mut places = [0u64; PLACES];
     let mut input = [0u8; 65536];
     let mut out = [0u8; 65530];
     let mut source = rt.stdin();
-    let mut sink = rt.stdout();
+    let mut sink = Sink::new(rt.stdout());
     open(&mut register, &mut book, &places);
     if begun(&rt, &mut sink, &mut register, &book, &places, &mut out) {
         print_day(
@@ -255,4 +255,5 @@ fn main(rt: HostRuntime) {
             &mut out,
         );
     }
+    sink.end()
 }

@@ -5,7 +5,9 @@
 ghost use Rattle.std.specs.Prelude.{◌≤◌, length};
 
 use listing_rooms::{MOST_ROOMS, write_rooms};
-use std::io::{Read, Write};
+use std::io;
+use std::io::{ErrorKind, Read, Write};
+use std::process::ExitCode;
 
 // One byte more than the longest listing, 64 rows of 108: an input that fills it is no listing, whatever follows.
 const MOST_TEXT: usize = 6913;
@@ -38,17 +40,24 @@ fn read_text<R: Read>(source: &mut R, text: &mut [u8]) -> usize
     filled
 }
 
-// The first n bytes, to the sink. A write that fails is let be: whoever runs the program sees that less came than was to come.
-fn print<W: Write>(sink: &mut W, bytes: &[u8], n: usize) {
+// How a program ends that was written for `cat` and `head`: nobody reads on is no error, and has the status of a filter that a broken pipe ended.
+const BROKEN_PIPE: u8 = 141;
+
+// The first n bytes, to the sink, and how the program ends.
+fn print<W: Write>(sink: &mut W, bytes: &[u8], n: usize) -> io::Result<ExitCode> {
     if n <= bytes.len() {
-        let _ = sink.write_all(&bytes[0..n]);
+        match sink.write_all(&bytes[0..n]) {
+            Err(e) if e.kind() == ErrorKind::BrokenPipe => return Ok(ExitCode::from(BROKEN_PIPE)),
+            written => written?,
+        }
     }
+    Ok(ExitCode::SUCCESS)
 }
 
-fn main(rt: HostRuntime) {
+fn main(rt: HostRuntime) -> io::Result<ExitCode> {
     let mut text = [0u8; MOST_TEXT];
     let mut out = [0u8; MOST_ROOMS];
     let n = read_text(&mut rt.stdin(), &mut text);
     let written = write_rooms(&text[0..n], &mut out);
-    print(&mut rt.stdout(), &out, written);
+    print(&mut rt.stdout(), &out, written)
 }
