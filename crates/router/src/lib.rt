@@ -1,6 +1,7 @@
 // The gate for order routers: eight functions over memory that the router lends, thin over the proved layers below. Each takes
 // memory of any content and any length; docs/EMBEDDING.md says how large it should be and what the caller owes. What a router may count on
 // beyond the eight contracts is proved in specs/: Safe.antt, Rows.antt, RoomLaws.antt, TextLaws.antt and LineLaws.antt.
+// The crate router_c exports the eight to C, each under its name and with its clauses.
 #![tactic(auto)]
 
 pub mod puts; // rows and rooms put into lent words
@@ -52,8 +53,7 @@ pub struct Answer {
 }
 
 // A fresh gate in a register and a book of any content, with as many order places as are lent; no place is written.
-#[unsafe(no_mangle)]
-pub extern "C" fn ekhurtza_open(register: &mut [u32], book: &mut [u64], places: &[u64]) -> u64
+pub fn ekhurtza_open(register: &mut [u32], book: &mut [u64], places: &[u64]) -> u64
     ensures { (result ≡ open_refusal (memory register.old book.old places.now))
         × ((register.new ≡ open_register (memory register.old book.old places.now))
         × (book.new ≡ open_book (memory register.old book.old places.now))) }
@@ -62,8 +62,7 @@ pub extern "C" fn ekhurtza_open(register: &mut [u32], book: &mut [u64], places: 
 }
 
 // A call by its code and four fields. A code other than 1 to 11 is refused by 2 in a sound gate, by 1 in another (rules' `noCall`).
-#[unsafe(no_mangle)]
-pub extern "C" fn ekhurtza_call(
+pub fn ekhurtza_call(
     register: &mut [u32],
     book: &mut [u64],
     places: &mut [u64],
@@ -86,13 +85,7 @@ pub extern "C" fn ekhurtza_call(
 }
 
 // A file of ratios by its text (2026-01): 1, 2 or 23, or 0 and the register has its table.
-#[unsafe(no_mangle)]
-pub extern "C" fn ekhurtza_load(
-    register: &mut [u32],
-    book: &[u64],
-    places: &[u64],
-    text: &[u8],
-) -> u64
+pub fn ekhurtza_load(register: &mut [u32], book: &[u64], places: &[u64], text: &[u8]) -> u64
     ensures { (result ≡ (step_entry shanghai (memory register.old book.now places.now) (Loaded (file_in text.now))).answer.refusal)
         × (memory register.new book.now places.now ≡ (step_entry shanghai (memory register.old book.now places.now) (Loaded (file_in text.now))).memory) }
 {
@@ -101,13 +94,7 @@ pub extern "C" fn ekhurtza_load(
 }
 
 // The listing into a lent buffer, and how many bytes it has.
-#[unsafe(no_mangle)]
-pub extern "C" fn ekhurtza_listing(
-    register: &[u32],
-    book: &[u64],
-    places: &[u64],
-    buffer: &mut [u8],
-) -> Answer
+pub fn ekhurtza_listing(register: &[u32], book: &[u64], places: &[u64], buffer: &mut [u8]) -> Answer
     ensures { (result.refusal ≡ list_refusal (memory register.now book.now places.now) (length buffer.old))
         × ((result.number ≡ listed_bytes (memory register.now book.now places.now) (length buffer.old))
         × (buffer.new ≡ listed (memory register.now book.now places.now) buffer.old)) }
@@ -127,8 +114,7 @@ pub extern "C" fn ekhurtza_listing(
 }
 
 // The row of a group as plain numbers.
-#[unsafe(no_mangle)]
-pub extern "C" fn ekhurtza_row(
+pub fn ekhurtza_row(
     register: &[u32],
     book: &[u64],
     places: &[u64],
@@ -159,8 +145,7 @@ fn refusal_of_room(room: Room, lent: usize) -> u64
 }
 
 // The room left to a group: own quota − net, as sign and size.
-#[unsafe(no_mangle)]
-pub extern "C" fn ekhurtza_room(
+pub fn ekhurtza_room(
     register: &[u32],
     book: &[u64],
     places: &[u64],
@@ -195,8 +180,7 @@ fn refusal_of_found(text: &[u8], k: u64, lent: usize) -> u64
 }
 
 // Row k of a listing, counted from 0, as plain numbers. The whole text is checked first.
-#[unsafe(no_mangle)]
-pub extern "C" fn ekhurtza_read_row(text: &[u8], k: u64, out: &mut [u64]) -> u64
+pub fn ekhurtza_read_row(text: &[u8], k: u64, out: &mut [u64]) -> u64
     ensures { (result ≡ found_refusal text.now k (length out.old))
         × (out.new ≡ found_row text.now k out.old) }
 {
@@ -218,15 +202,7 @@ fn refusal_of_line(call: Call, lent: usize) -> u64
 }
 
 // A call as its line, with the line feed, by its code and four fields; those that the call does not use are written 0.
-#[unsafe(no_mangle)]
-pub extern "C" fn ekhurtza_call_line(
-    code: u64,
-    a: u64,
-    b: u64,
-    c: u64,
-    d: u64,
-    line: &mut [u8],
-) -> u64
+pub fn ekhurtza_call_line(code: u64, a: u64, b: u64, c: u64, d: u64, line: &mut [u8]) -> u64
     ensures { (result ≡ line_refusal code a b c d (length line.old)) × (line.new ≡ line_put code a b c d line.old) }
 {
     let written = call_of(code, a, b, c, d);

@@ -1,0 +1,19 @@
+-- `book_places::place_at` meets its contract. Assumes nothing.
+use mathlib.Core.Path.{refl}
+use native.Mathlib.Omega.{arith}
+use Rattle.rules.specs.Tests.{true_within, above_range}
+use Rattle.book.specs.Layout.{place_at}
+use borrow.Author.Rules.{rules}
+use Rattle.book_places.proofs.place_at.Goals as goal
+
+pub returns-then-k-eq0 : goal.returns-then-k-eq0
+unfolding place_at
+returns-then-k-eq0 c = rw c.if-k-eq0.true
+
+pub returns-then-k-gt-TOP_ORDER : goal.returns-then-k-gt-TOP_ORDER
+unfolding place_at
+returns-then-k-gt-TOP_ORDER c = rw (above_range 1 65536 c.args.k c.if-k-gt-TOP_ORDER.true)
+
+pub returns : goal.returns
+unfolding place_at
+returns c = rw (true_within 1 65536 c.args.k (omega arith) (omega arith), c.word-open.ensures, c.word-price.ensures, c.word-kind.ensures, c.word-group.ensures)

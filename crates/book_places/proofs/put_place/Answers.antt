@@ -1,0 +1,18 @@
+-- `book_places::put_place` meets its contract. Assumes nothing.
+use native.Mathlib.Omega.{arith}
+use Rattle.rules.specs.Tests.{true_within, above_range}
+use Rattle.book.specs.Layout.{put_place}
+use borrow.Author.Rules.{rules}
+use Rattle.book_places.proofs.put_place.Goals as goal
+
+pub returns-then-k-eq0 : goal.returns-then-k-eq0
+unfolding put_place
+returns-then-k-eq0 c = rw c.if-k-eq0.true
+
+pub returns-then-k-gt-TOP_ORDER : goal.returns-then-k-gt-TOP_ORDER
+unfolding put_place
+returns-then-k-gt-TOP_ORDER c = rw (above_range 1 65536 c.args.k c.if-k-gt-TOP_ORDER.true)
+
+pub returns : goal.returns
+unfolding put_place
+returns c = rw (true_within 1 65536 c.args.k (omega arith) (omega arith), c.store.ensures)

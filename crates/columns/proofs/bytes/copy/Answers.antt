@@ -1,0 +1,15 @@
+-- `columns::bytes::copy` meets its contract. Assumes nothing.
+use Prim.Native.Nat.{◌-◌, ◌≤◌}
+use mathlib.Core.Path.{◌≡◌, refl}
+use native.Mathlib.Omega.{arith}
+use lib.ListN.{length, length-set}
+use lib.Seq.{paste, paste-zero}
+use Rattle.columns.proofs.Steps.{put_on, put_over}
+use borrow.Author.Rules.{rules}
+use Rattle.columns.proofs.bytes.copy.Goals as goal
+
+pub loop-i-preserved : goal.loop-i-preserved
+loop-i-preserved c =
+    let a = c.args in
+    let l = c.loop-i in
+    (omega arith, simp length-set l.invariant.1, put_on l.out a.out.now a.text.now a.at (length a.text.now) l.i _ c.requires refl c.loop-i-test.true l.invariant.2 refl)

@@ -1,0 +1,30 @@
+-- `columns_read::is_dash` meets its contract. Assumes nothing.
+use Prim.Native.Nat.{◌-◌, ◌≤◌}
+use mathlib.Core.Path.{◌≡◌, sym, ◌∙◌}
+use native.Mathlib.Omega.{arith}
+use lib.ListN.{drop}
+use Rattle.columns.specs.Column.{dashed, same, part}
+use Rattle.columns.specs.Laws.{length-dashed}
+use Rattle.columns.proofs.Steps.{dashed-at, same_on, same_not, same_over}
+use borrow.Author.Rules.{rules}
+use Rattle.columns_read.proofs.is_dash.Goals as goal
+
+pub returns-then-text-at : goal.returns-then-text-at
+returns-then-text-at c =
+    let a = c.args in
+    let l = c.loop-i in
+    let e = c.mark_of.ensures ∙ dashed-at a.w l.i c.loop-i-test.true in
+    sym (l.invariant.1 ∙ same_not a.text.now (dashed a.w) a.at a.w l.i c.requires (length-dashed a.w) c.loop-i-test.true (λ f. c.if-text-at.true (f ∙ sym e)))
+
+pub loop-i-preserved : goal.loop-i-preserved
+loop-i-preserved c =
+    let a = c.args in
+    let l = c.loop-i in
+    let e = c.mark_of.ensures ∙ dashed-at a.w l.i c.loop-i-test.true in
+    (omega arith, l.invariant.1 ∙ same_on a.text.now (dashed a.w) a.at a.w l.i c.requires (length-dashed a.w) c.loop-i-test.true (c.if-text-at.false ∙ e))
+
+pub returns : goal.returns
+returns c =
+    let a = c.args in
+    let l = c.loop-i in
+    sym (l.invariant.1 ∙ same_over a.text.now (dashed a.w) a.at a.w l.i c.requires (length-dashed a.w) c.loop-i-test.false)

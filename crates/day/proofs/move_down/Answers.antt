@@ -1,0 +1,12 @@
+-- `day::move_down` meets its contract. Assumes nothing.
+use Prim.Native.Nat.{◌-◌, ◌≤◌}
+use mathlib.Core.Path.{◌≡◌}
+use native.Mathlib.Omega.{arith}
+use lib.ListN.{length, drop}
+use lib.Seq.{paste, paste-zero}
+use Rattle.day.proofs.Telling.{moved_on_lem, moved_all}
+use borrow.Author.Rules.{rules}
+use Rattle.day.proofs.move_down.Goals as goal
+
+pub loop-i-preserved : goal.loop-i-preserved
+loop-i-preserved c = (omega arith, search rules, moved_on_lem c.args.buffer.now c.loop-i.buffer c.args.from c.args.n c.loop-i.i c.requires c.loop-i-test.true c.loop-i.invariant.2)

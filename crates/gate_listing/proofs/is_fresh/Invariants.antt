@@ -1,0 +1,15 @@
+-- `gate_listing::is_fresh` meets its contract. Assumes nothing.
+use Prim.Native.Nat.{◌-◌, ◌≤◌}
+use mathlib.Core.Path.{◌≡◌, refl, sym}
+use native.Mathlib.Omega.{arith}
+use Rattle.listing.specs.Text.{fresh}
+use Rattle.gate_listing.specs.Listed.{rows_on}
+use Rattle.gate_listing.proofs.Rows.{fresh_step, fresh_fail, fresh_end, key_is}
+use borrow.Author.Rules.{rules}
+use Rattle.gate_listing.proofs.is_fresh.Given as goal
+
+abbrev pub invariant-loop-i : goal.invariant-loop-i
+invariant-loop-i l = (l.i ≤ l.n) × (fresh l.row (rows_on l.register l.book l.from (l.n - l.from)) ≡ fresh l.row (rows_on l.register l.book l.i (l.n - l.i)))
+
+abbrev pub decreases-loop-i : goal.decreases-loop-i
+decreases-loop-i l = l.n - l.i

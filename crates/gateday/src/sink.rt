@@ -1,0 +1,46 @@
+// What is printed, to a writer that may fail: from the first failure on nothing is written.
+use std::io;
+use std::io::{ErrorKind, Write};
+use std::process::ExitCode;
+
+pub struct Sink<W> {
+    writer: W,
+    failure: Option<io::Error>,
+}
+
+impl<W: Write> Sink<W> {
+    pub fn new(writer: W) -> Sink<W> {
+        Sink {
+            writer,
+            failure: None,
+        }
+    }
+
+    // The first n bytes, to the writer.
+    pub fn print(&mut self, bytes: &[u8], n: usize) {
+        if n <= bytes.len() && self.failure.is_none() {
+            self.failure = self.writer.write_all(&bytes[0..n]).err();
+        }
+    }
+
+    pub fn has_failed(&self) -> bool {
+        self.failure.is_some()
+    }
+}
+
+// What a program that was written for `cat` and `head` ends with: nobody reads on is no error, and has the status of a filter that a broken pipe ended.
+const BROKEN_PIPE: u8 = 141;
+
+impl<W: Write + Drop> Sink<W> {
+    // How the program ends.
+    pub fn end(self) -> io::Result<ExitCode> {
+        let Sink { writer: _, failure } = self;
+        let Some(error) = failure else {
+            return Ok(ExitCode::SUCCESS);
+        };
+        if error.kind() == ErrorKind::BrokenPipe {
+            return Ok(ExitCode::from(BROKEN_PIPE));
+        }
+        Err(error)
+    }
+}

@@ -1,0 +1,13 @@
+-- `register_check::all_scalars_ok` meets its contract. Assumes nothing.
+use Prim.Native.Nat.{◌≤◌, ◌-◌}
+use mathlib.Core.Path.{◌≡◌}
+use Rattle.words.specs.Each.{all_below, below_none, below_turn, below_end}
+use Rattle.register.specs.Columns.{scalars_ok}
+use borrow.Author.Rules.{rules}
+use Rattle.register_check.proofs.all_scalars_ok.Given as goal
+
+abbrev pub invariant-loop-i : goal.invariant-loop-i
+invariant-loop-i l = (l.i ≤ l.n) × (l.ok ≡ all_below l.i (scalars_ok l.register))
+
+abbrev pub decreases-loop-i : goal.decreases-loop-i
+decreases-loop-i l = l.n - l.i

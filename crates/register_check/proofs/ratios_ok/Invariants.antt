@@ -1,0 +1,13 @@
+-- `register_check::ratios_ok` meets its contract. Assumes nothing.
+use Prim.Native.Nat.{◌≤◌, ◌-◌}
+use mathlib.Core.Path.{◌≡◌, refl}
+use Rattle.words.specs.Each.{all_below, below_none, below_turn, below_end}
+use Rattle.register.specs.Check.{ratio_ok}
+use borrow.Author.Rules.{rules}
+use Rattle.register_check.proofs.ratios_ok.Given as goal
+
+abbrev pub invariant-loop-j : goal.invariant-loop-j
+invariant-loop-j l = (l.j ≤ 6) × (l.ok ≡ all_below l.j (ratio_ok l.register))
+
+abbrev pub decreases-loop-j : goal.decreases-loop-j
+decreases-loop-j l = 6 - l.j

@@ -1,0 +1,16 @@
+-- `register_groups::gathered` meets its contract. Assumes nothing.
+use Prim.Native.Nat.{◌≤◌, ◌-◌}
+use mathlib.Core.Path.{◌≡◌, refl, ap, ◌∙◌}
+use native.Mathlib.Omega.{arith}
+use lib.ListN.{length, get_or, length-set}
+use Rattle.register.specs.Records.{place_range}
+use Rattle.register.proofs.Steps.{Gathered, gathered_none, gathered_turn, gathered_all}
+use borrow.Author.Rules.{rules}
+use Rattle.register.specs.Layout.{record_words}
+use Rattle.register_groups.proofs.gathered.Given as goal
+
+abbrev pub invariant-loop-k : goal.invariant-loop-k
+invariant-loop-k l = (l.k ≤ record_words) × (length l.r ≡ record_words) × Gathered l.register l.i l.r l.k
+
+abbrev pub decreases-loop-k : goal.decreases-loop-k
+decreases-loop-k l = record_words - l.k
