@@ -23,7 +23,8 @@ use Rattle.history.specs.Past as past
 use Rattle.history.specs.Runs.{after, after_all}
 use Rattle.register.specs.Layout.{group_count, group_at}
 use Rattle.register.specs.Records.{LimitFits}
-use Rattle.register.specs.Sound.{InRange, group_sound, register_known}
+use Rattle.register.specs.Sound.{InRange}
+use Rattle.register.proofs.Sound.{group_sound, register_known}
 use Rattle.quota.specs.Asks.{is_sound, groups_enrolled, own_in_force}
 use Rattle.quota.specs.Rows.{Proper, OwnWithin, distinct_groups}
 use Rattle.book.specs.Layout.{money_at}
@@ -36,7 +37,8 @@ use Rattle.claim.specs.Opening.{places_lent, open_refusal}
 use Rattle.claim.specs.Demand.{run, run_all, opened, RowIs}
 use Rattle.claim.specs.QuotaSim.{group_counts}
 use Rattle.claim.specs.OrderSums.{money-fits}
-use Rattle.claim.specs.Theorem.{Sim, run_sim, all_sim, opened_sim, row_is_lem}
+use Rattle.claim.specs.Theorem.{Sim, row_is_lem}
+use Rattle.claim.proofs.Theorem.{run_sim, all_sim, opened_sim}
 use Rattle.rows.specs.Row.{signed_net, class_kept, at_most, limits_kept, row_obeys, row_kept, made_row, shown_row, row_at, shown_kept}
 use Rattle.rows.specs.declared.Row.{Row}
 use Rattle.rows.specs.declared.RowRead.{RowRead}

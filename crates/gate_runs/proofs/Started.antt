@@ -11,7 +11,7 @@ use Rattle.history.specs.Runs.{answers, calls}
 use Rattle.claim.specs.Step.{Memory, memory}
 use Rattle.claim.specs.Opening.{places_lent, open_refusal, fresh_register, fresh_book, open_register, open_book}
 use Rattle.claim.specs.Demand.{run, opened}
-use Rattle.claim.specs.Theorem.{demand}
+use Rattle.claim.proofs.Theorem.{demand}
 use Rattle.gate_runs.specs.Runs.{calls_of, answer_words, run_refusal, run_memory, run_answers}
 use Rattle.gate_runs.specs.FromOpening.{start_refusal, FromOpening}
 use Rattle.gate_runs.specs.Corollaries.{run-answers_as_history, run-memory_as_claimed}

@@ -13,8 +13,8 @@ use Rattle.history.specs.Runs.{Entry, answers, after_all}
 use Rattle.claim.specs.Step.{step, Memory}
 use Rattle.claim.specs.Opening.{places_lent, open_refusal}
 use Rattle.claim.specs.Demand.{run, answers_of, run_all, opened}
-use Rattle.claim.specs.Theorem.{all_sim, opened_sim, steps}
-use Rattle.claim.specs.Corollaries.{calls-answered}
+use Rattle.claim.proofs.Theorem.{all_sim, opened_sim, steps}
+use Rattle.claim.proofs.Corollaries.{calls-answered}
 use Rattle.gate_runs.specs.Runs.{calls_of, answer_words, run_refusal, run_memory, run_answers}
 
 -- What `gate_runs::run` leaves after an opening, by its contract and the third demand: in the room for the answers, word for word, the

@@ -8,7 +8,8 @@ use Rattle.rules.specs.declared.quotas.Limit.{Limit}
 use Rattle.rules.specs.declared.quotas.Limit.TheVariants.{Nothing, At}
 use Rattle.rules.specs.Money.{millions}
 use Rattle.columns.specs.Column.{marked, column, dashed, optional_text, signed_text, fits, optional_fits, signed_fits, same, read_plain, read_optional, read_signed, part, plain_at, optional_at, signed_at, same_at}
-use Rattle.columns.specs.Laws.{true_fits, plain_back, plain_only, optional_back, optional_only, signed_back, signed_only, same_refl, same_true}
+use Rattle.columns.specs.Laws.{true_fits, plain_only, optional_only, signed_only, same_refl, same_true}
+use Rattle.columns.proofs.Laws.{plain_back, optional_back, signed_back}
 use Rattle.columns.specs.Pastes.{length_part, plain_read, optional_read, signed-read}
 use Rattle.columns.specs.declared.reading.Plain.{Plain}
 use Rattle.columns.specs.declared.reading.Optional.{Optional}

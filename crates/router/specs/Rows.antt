@@ -23,7 +23,8 @@ use Rattle.book.specs.Layout.{money_at}
 use Rattle.claim.specs.Step.{Memory}
 use Rattle.claim.specs.Opening.{places_lent, open_refusal}
 use Rattle.claim.specs.Demand.{run_all, opened}
-use Rattle.claim.specs.Theorem.{Sim, all_sim, opened_sim, demand}
+use Rattle.claim.specs.Theorem.{Sim}
+use Rattle.claim.proofs.Theorem.{all_sim, opened_sim, demand}
 use Rattle.orders.specs.Host.{host_ok}
 use Rattle.rows.specs.Row.{row_obeys, row_kept, no_row, refused_row, made_row, shown_row, row_refusal, row_at, row_of}
 use Rattle.rows.specs.declared.Row.{Row}

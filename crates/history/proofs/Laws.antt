@@ -1,4 +1,5 @@
--- The laws of refusal lists, for the history's answers. Assumes nothing.
+-- The laws of refusal lists, for the history's answers: the smallest that applies is given, each by its own condition, and never 1. Assumes nothing.
+-- Here, and not in specs/, so that a wrong definition is refused by the first theorem that it breaks, and not by those that rest on it.
 use Rattle.std.specs.Prelude.{ℕ, ◌≤◌, ◌<◌, ◌≡◌, true, ◌≢◌, ltb, length}
 use Rattle.rules.specs.Orders.{Rule}
 use Rattle.rules.specs.Laws.{Applies, rising, rank, smallest, given, never-one, enrol_rises, attach_rises, detach_rises, regular_rises, raise_rises, withdraw_rises, own_quota_rises, order_rises, fill_rises, cancel_rises, close_rises, load_rises}

@@ -1,0 +1,5 @@
+pub mod Unused
+pub mod Theorem
+pub mod Alike
+pub mod Edges
+pub mod Corollaries

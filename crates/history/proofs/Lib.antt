@@ -1,0 +1,4 @@
+pub mod Tally
+pub mod Laws
+pub mod OldRatios
+pub mod Answered
