@@ -31,7 +31,7 @@ INSTALLED := lib/libekhurtza.a lib/libekhurtza.so.$(VERSION) lib/libekhurtza.so.
 .DELETE_ON_ERROR:
 
 help:
-	@echo 'make library                    prove and build target/lib/libekhurtza.a and libekhurtza.so (the first time some minutes)'
+	@echo 'make library                    prove and build target/lib/libekhurtza.a and libekhurtza.so (the first time tens of minutes)'
 	@echo 'make install PREFIX=DIR         library, header, pkg-config and CMake files into DIR (now $(PREFIX)); DESTDIR is honoured'
 	@echo 'make uninstall PREFIX=DIR       take away what install put there'
 	@echo 'make programs                   prove and build target/bin/gateday and target/bin/readlisting'
@@ -39,10 +39,9 @@ help:
 
 library: $(ARCHIVE) $(SHARED)
 
-# rt proves only what changed. It may leave an archive that is still right as it is: touch, so that make sees it as new.
+# scripts/build has rt prove what changed, and puts the archive there anew, so that make sees it as new.
 $(ROUTER): $(SOURCES)
-	rt staticlib router < /dev/null
-	touch $@
+	scripts/build library
 
 $(ARCHIVE): $(ROUTER)
 	mkdir -p target/lib
@@ -56,7 +55,7 @@ $(SHARED): $(ARCHIVE) packaging/exports.map
 	ln -sf $(notdir $@) target/lib/libekhurtza.so
 
 programs:
-	rt check gateday readlisting < /dev/null
+	scripts/build gateday readlisting
 
 test:
 	.ci/run

@@ -1,4 +1,4 @@
-//! Calls through the library that `rt staticlib router` makes, in nanoseconds a call: an accepted sell, a refused order, a fill; over groups, over N and
+//! Calls through the library that `scripts/build library` makes, in nanoseconds a call: an accepted sell, a refused order, a fill; over groups, over N and
 //! over the orders so far. Each figure is the median of interleaved rounds. Between calls the host puts back the two words that a call has moved on, so that
 //! every call of a row meets the same gate.
 

@@ -1,4 +1,4 @@
-//! Texts through the library that `rt staticlib router` makes, in nanoseconds: a listing of 64 groups written, each of its rows read, a call line written.
+//! Texts through the library that `scripts/build library` makes, in nanoseconds: a listing of 64 groups written, each of its rows read, a call line written.
 //! Each figure is the median of interleaved rounds.
 
 use std::hint::black_box;

@@ -39,8 +39,8 @@ take_input() { # [FILE]
 
 # ---- building
 
-# The crates of the repository that the programs are made of, themselves included, by crates.txt. Libraries of the kit (io, libc) have no line
-# there, and are left out.
+# The crates of the repository that the programs are made of, themselves included, by crates.txt. A library of the kit would have no line there, and be
+# left out.
 crates_of() { # NAME...
     awk -v wanted="$*" '
         { sub(/#.*/, ""); i = index($0, ":") }
@@ -107,17 +107,17 @@ build() { # NAME...
     exec {lock}>&-
 }
 
-# One rt check. A file PROGRAM-build.began is there from its start until it has ended well: rt may have linked a program and then refused it, or
-# been stopped. Afterwards the programs bear the time at which the check began: a file that was edited meanwhile is newer, and a program that rt
+# One scripts/build. A file PROGRAM-build.began is there from its start until it has ended well: rt may have linked a program whose run failed, or
+# been stopped. Afterwards the programs bear the time at which the build began: a file that was edited meanwhile is newer, and a program that rt
 # found unchanged is not looked at again.
 prove() { # NAME...
     local log=target/log/$name-build.log program status
     complain "$reason"
-    complain "proving once, about 5 minutes and 2 GB (less where little has changed); the prover's words: $log"
+    complain "proving once, tens of minutes and up to 4 GB (less where little has changed); the prover's words: $log"
     for program in "$@"; do
         : > "$top/target/log/$program-build.began" || die "target/log can't be written"
     done
-    (cd "$top" && exec rt check "$@" < /dev/null 2>&1) | tee "$top/$log" | show_progress "$(crates_of "$@" | wc -l)"
+    "$top/scripts/build" "$@" < /dev/null 2>&1 | tee "$top/$log" | show_progress "$(crates_of "$@" | wc -l)"
     status=${PIPESTATUS[0]}
     for program in "$@"; do
         if [ "$status" -ne 0 ] || [ ! -x "$top/target/bin/$program" ]; then not_built "$log" "$@"; fi
@@ -127,16 +127,17 @@ prove() { # NAME...
 
 not_built() { # LOG NAME...
     tail -n 20 "$top/$1" >&2
-    die "rt check ${*:2} failed, so nothing was run; all of the prover's words are in $top/$1"
+    die "scripts/build ${*:2} failed, so nothing was run; all of the prover's words are in $top/$1"
 }
 
-# Counts the crates that rt says are proved: one line, written over, on a terminal; else a line for each.
+# Counts the crates that rt proves: one line, written over, on a terminal; else a line for each. Of a crate that was proved before rt says nothing, so
+# the count may end below their number.
 show_progress() { # HOW-MANY-CRATES
     local line proved=0 form='%s: %d of %d crates proved\n' ended=''
     [ ! -t 2 ] || form='\r%s: %d of %d crates proved' ended='\n'
     while IFS= read -r line || [ -n "$line" ]; do
-        # 'rt: book_money proved (4 s)', or '(unchanged since it was last proved)'; not 'rt: gateday proved, and its run FAILED'
-        [[ $line =~ ^rt:\ [A-Za-z0-9_]+\ proved\ \( ]] || continue
+        # the last line of a crate's check: 'logic=proved functions=6 ..'
+        [[ $line =~ ^logic=proved\  ]] || continue
         proved=$((proved + 1))
         # shellcheck disable=SC2059
         printf "$form" "$name" "$proved" "$1" >&2
