@@ -1,7 +1,7 @@
 -- All words of a run joined bit by bit: no word of the run is above it. Assumes nothing.
-use Rattle.std.specs.Prelude.{ℕ, zero, suc, ◌+◌, ◌≤◌, ◌<◌, ◌≡◌, refl, Bool, true, List, leb, get_or}
-use Rattle.std.proofs.Common.{ap, sym, ◌∙◌, add-one, arith, le-leb}
-use Rattle.std.specs.Int.Bits.{bit_or, bit_and, or_add_and}
+use Rattle.std.specs.Prelude.{ℕ, ◌+◌, ◌≤◌, ◌<◌, ◌≡◌, true, List, leb, get_or}
+use Rattle.std.proofs.Common.{arith, le-leb}
+use Rattle.std.specs.Int.Bits.{bit_or, or_add_and}
 use Rattle.std.proofs.lemmas.Nat.{and_le_l, and_le_r}
 use Rattle.words.specs.Each.{all_below, true_all, same}
 use Rattle.rules.specs.Limits.{top_money}

@@ -1,6 +1,6 @@
 -- Both laws of call lines: a call whose fields fit is read back from its text (`line_back`), and a line that is formed is, with its line feed, exactly the
 -- text that is written for the call that is read (`line_only`). Assumes nothing.
-use Rattle.std.specs.Prelude.{ℕ, suc, ◌+◌, ◌≤◌, ◌≡◌, refl, Bool, true, false, ◌&&◌, List, [], ◌∷◌, ◌++◌, eqb, length, take}
+use Rattle.std.specs.Prelude.{ℕ, suc, ◌≤◌, ◌≡◌, refl, Bool, true, false, ◌&&◌, List, [], ◌∷◌, ◌++◌, eqb, length, take}
 use Rattle.std.proofs.Common.{ap, sym, ◌∙◌, subst, append_assoc, append-nil, arith, eqb-true, length-append, take_all, take-add}
 use Rattle.std.proofs.lemmas.Bool.{false≢true, eqb-false}
 use Rattle.rules.specs.Tests.{pick, within, both, within_true}

@@ -1,6 +1,6 @@
 -- "A call line is the code, 1 to 11, in 2 columns, four fields of 9, line feed; unused fields are 0. Any other line is malformed." What is written
 -- for a call and for an answer, what is read from a line (given without its line feed), and every byte of a buffer after a put. (Lines and columns)
-use Rattle.std.specs.Prelude.{ℕ, ◌+◌, Bool, true, false, ◌&&◌, ◌||◌, List, [], ◌∷◌, ◌++◌, eqb, leb, length, get_or}
+use Rattle.std.specs.Prelude.{ℕ, Bool, true, false, ◌&&◌, ◌||◌, List, [], ◌∷◌, ◌++◌, eqb, leb, length, get_or}
 use Rattle.std.proofs.Math.Seq.{paste}
 use Rattle.rules.specs.Tests.{pick, within}
 use Rattle.rules.specs.Codes.{call_of}

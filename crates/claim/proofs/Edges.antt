@@ -15,7 +15,6 @@ use Rattle.history.specs.Past.{History, at_opening, filled_money, open_in, bough
 use Rattle.history.specs.Past as past
 use Rattle.history.specs.Answers.{is_taken, refusals, number_given, answer}
 use Rattle.history.specs.Runs.{accept, next, after, answers, calls, after_all, after-calls, answers-calls}
-use Rattle.register.specs.Layout.{group_at}
 use Rattle.claim.specs.Step.{Memory}
 use Rattle.claim.specs.Opening.{places_lent, open_refusal}
 use Rattle.claim.specs.Demand.{run, opened, RowIs}

@@ -9,9 +9,8 @@ use Rattle.rules.specs.declared.money.Mils.{Mils}
 use Rattle.rules.specs.declared.calls.Call.{Call}
 use Rattle.rules.specs.declared.calls.Call.TheVariants.{Enrol, Attach, Detach, Regular, Raise, Withdraw, OwnQuota, Order, Fill, Cancel, Close}
 use Rattle.history.specs.Past.{History}
-use Rattle.history.specs.Runs.{after}
 use Rattle.book.specs.Layout.{accepted_of, place_at, place_words}
-use Rattle.claim.specs.Step.{Memory, memory, step}
+use Rattle.claim.specs.Step.{Memory, step}
 
 -- ---- gates that stand for one history
 

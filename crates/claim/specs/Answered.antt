@@ -1,7 +1,7 @@
 -- The table of answers, the host's part: the openings that are proper, and refusal 1 for every figure of the gate and of a named place, below,
 -- at and above the ends of its range. Expected values are worked out from document 01. Cancelling order 0 is refused by 2 where the memory is
 -- sound, and by 1, which is smaller, where it is not.
-use Rattle.std.specs.Prelude.{ℕ, zero, suc, ◌+◌, ◌*◌, ◌-◌, ◌≡◌, refl, true, List, [], ◌∷◌, ◌++◌, replicate, set}
+use Rattle.std.specs.Prelude.{ℕ, ◌+◌, ◌-◌, ◌≡◌, refl, true, List, [], ◌∷◌, replicate, set}
 use Rattle.rules.specs.Money.{mils, millions, mils_of}
 use Rattle.rules.specs.Quotas.{quota_by, closed_quota}
 use Rattle.rules.specs.Orders.{is_buy, price_rule, worse_fill, net_of, shanghai, stops}

@@ -22,7 +22,7 @@ use Rattle.rules.specs.declared.calls.Call.TheVariants.{Enrol, Attach, Detach, R
 use Rattle.rules.specs.declared.trading.OrderReads.{OrderReads}
 use Rattle.rules.specs.declared.trading.PlaceReads.{PlaceReads}
 use Rattle.words.specs.Each.{same}
-use Rattle.history.specs.Past.{Filled, Ordered, History, at_opening, no_order, group_at, order_at, filled_money, open_in, bought_in, sold_in, in_group, belongs, money_in, money_of}
+use Rattle.history.specs.Past.{Filled, Ordered, History, at_opening, no_order, group_at, order_at, filled_money, open_in, bought_in, sold_in, in_group, money_in, money_of}
 use Rattle.history.specs.Answers as past
 use Rattle.history.specs.Runs.{with_orders, with_open, changed_order, ordered, filled, cancelled, accept}
 use Rattle.quota.specs.Asks as asks

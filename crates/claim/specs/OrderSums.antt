@@ -1,9 +1,9 @@
 -- The money of a history's orders: no group's passes L; what is known of each order alone is kept by an order more, a fill and a cancel;
 -- and how each moves its group's money. For the order half of the third demand. Assumes nothing.
 use Prim.Native.Nat.{ℕ, zero, suc, ◌+◌, ◌*◌, ◌-◌, ◌≤◌, ◌<◌}
-use Rattle.std.specs.Prelude.{◌≡◌, Bool, true, false, not, ◌≢◌, eqb, length, get_or, set}
+use Rattle.std.specs.Prelude.{◌≡◌, Bool, true, false, not, length, get_or, set}
 use Rattle.std.proofs.Math.Path.{refl, ap}
-use Rattle.std.proofs.Common.{sym, ◌∙◌, mul-le-mul_right, mul-le-mul_left, not-suc-le-zero, le_of_suc-le-suc, eq-eqb, ne_eqb, le-leb, length-append, length-set, get_or-set_same, get_or-set_other}
+use Rattle.std.proofs.Common.{◌∙◌, mul-le-mul_right, mul-le-mul_left, not-suc-le-zero, le_of_suc-le-suc, le-leb, length-append, length-set, get_or-set_same, get_or-set_other}
 use mathlib.Core.List.{List, [], ◌∷◌, ◌++◌}
 use native.Mathlib.Omega.{arith}
 use Rattle.std.proofs.Math.Nat.{mul-add}

@@ -1,6 +1,6 @@
 -- What the proof of the third demand (proofs/Theorem.antt) is made of. Assumes nothing.
-use Prim.Native.Nat.{ℕ, ◌-◌, ◌≤◌, ◌<◌}
-use Rattle.std.specs.Prelude.{◌≡◌, leb, length, get_or, replicate}
+use Prim.Native.Nat.{ℕ, ◌<◌}
+use Rattle.std.specs.Prelude.{◌≡◌, length}
 use Rattle.std.proofs.Math.Path.{refl, ap}
 use Rattle.std.proofs.Math.Bool.{true}
 use mathlib.Core.List.{List, [], ◌∷◌}
@@ -11,17 +11,16 @@ use Rattle.rules.specs.declared.quotas.Quota.{Quota}
 use Rattle.rules.specs.declared.calls.Call.{Call}
 use Rattle.rules.specs.declared.calls.Answer.{Answer}
 use Rattle.history.specs.Past.{History}
-use Rattle.history.specs.Past as past
 use Rattle.history.specs.Answers.{refusal_of, answer}
 use Rattle.history.specs.Runs.{accept, next, Entry, calls, next_entry, answer_entry}
 use Rattle.quota.specs.Asks as asks
 use Rattle.register.specs.Layout.{group_count}
 use Rattle.orders.specs.Host.{host_ok}
-use Rattle.claim.specs.Step.{Memory, Stepped, memory, closing, closing_sound, step, step_entry}
+use Rattle.claim.specs.Step.{Memory, step, step_entry}
 use Rattle.claim.specs.Relation.{QuotaSim, OrderSim}
 use Rattle.claim.specs.QuotaSim as quotas
 use Rattle.claim.specs.OrderSim as books
-use Rattle.claim.specs.Demand.{run, answers_of, run_all, answers_of_all, RowIs, Demand}
+use Rattle.claim.specs.Demand.{run, answers_of, run_all, answers_of_all, RowIs}
 
 -- a gate's memory stands for a history
 pub record Sim (N : ℕ) (h : History) (m : Memory) : Type 0 where

@@ -1,6 +1,6 @@
 -- A column of a longer text is read back where it stands: `plain_at_back`, over specs/Pastes.antt. Assumes nothing.
 -- Here, and not in specs/, so that a wrong definition is refused by the first theorem that it breaks, and not by those that rest on it.
-use Rattle.std.specs.Prelude.{ℕ, ◌+◌, ◌-◌, ◌≤◌, ◌≡◌, true, List, ◌++◌, length}
+use Rattle.std.specs.Prelude.{ℕ, ◌+◌, ◌≤◌, ◌≡◌, true, List, ◌++◌, length}
 use Rattle.std.proofs.Common.{ap, ◌∙◌, arith, length-append}
 use Rattle.columns.specs.Column.{column, fits, read_plain, part, plain_at}
 use Rattle.columns.specs.Laws.{length_marked}

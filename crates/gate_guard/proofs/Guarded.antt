@@ -12,7 +12,7 @@ use Rattle.quota.specs.Asks.{groups_enrolled}
 use Rattle.quota.specs.Calls.{enrol_refusal, enrol_answer, enrol_after, close_refusal, close_after}
 use Rattle.book.specs.Layout.{no_money, put_money}
 use Rattle.orders.specs.Calls.{closed_book}
-use Rattle.claim.specs.Step.{Memory, Stepped, memory, book_sound, on_register, enrolling, closing, closing_sound}
+use Rattle.claim.specs.Step.{memory, book_sound, on_register, enrolling, closing, closing_sound}
 
 module _ (rs bs ps : List ℕ) (ok : Bool) (e : ok ≡ book_sound (memory rs bs ps)) where
   -- a call on the register alone

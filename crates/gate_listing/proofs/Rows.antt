@@ -8,10 +8,9 @@ use native.Mathlib.Numerals.{add-one}
 use native.Mathlib.Omega.{arith}
 use borrow.Author.Tests.{le-leb, lt-ltb, le-ltb, ltb-false}
 use lib.Dec.{eqb, leb, ltb}
-use lib.ListN.{length, take, drop, length-append}
-use lib.Seq.{paste, paste-zero, length-paste}
+use lib.ListN.{length}
+use lib.Seq.{paste, length-paste}
 use Rattle.rules.specs.Tests.{pick, both}
-use Rattle.rules.specs.Refusals.{unsound_number, short_buffer_number, unless_refused}
 use Rattle.rules.specs.Laws.{where_refused, where_accepted}
 use Rattle.columns.specs.Pastes.{chain_on}
 use Rattle.quota.specs.Asks.{is_sound, groups_enrolled}
@@ -21,7 +20,6 @@ use Rattle.rows.specs.Row.{row_kept, row_at}
 use Rattle.rows.specs.declared.Row.{Row}
 use Rattle.rows.specs.declared.RowRead.{RowRead}
 use Rattle.listing.specs.Text.{row_text, row_put, listing_text, same_key, fresh, rows_kept, listing_kept, row_bytes}
-use Rattle.listing.specs.RowLaws.{length-row}
 use Rattle.listing.specs.Laws.{length_listing}
 use Rattle.gate_listing.specs.Listed.{rows_on, gate_rows, list_refusal, listed}
 use Rattle.claim.specs.Step.{memory}

@@ -1,17 +1,13 @@
 -- The table of answers, the listing's part: "22: listing buffer shorter than 108 bytes a group; a longer one keeps its tail", over every lent
 -- memory after a proper opening. Expected values are worked out from document 01; the rooms are carried over from the history. (Refusal list)
-use Rattle.std.specs.Prelude.{ℕ, zero, suc, ◌≡◌, refl, true, List, [], ◌∷◌, ◌++◌, replicate}
-use Prim.Native.String.{String}
-use Rattle.std.proofs.Common.{◌∙◌, arith}
-use Rattle.std.proofs.Math.Seq.{paste}
+use Rattle.std.specs.Prelude.{ℕ, zero, suc, ◌≡◌, true, List, [], ◌∷◌, ◌++◌, replicate}
+use Rattle.std.proofs.Common.{arith}
 use Rattle.rules.specs.Money.{millions}
 use Rattle.rules.specs.Quotas.{quota_by, closed_quota}
 use Rattle.rules.specs.Orders.{shanghai, net_of}
 use Rattle.rules.specs.Lists.{enrol_rules, regular_rules, own_quota_rules}
 use Rattle.rules.specs.Loads.{load_rules}
 use Rattle.rules.specs.Keyed.{find, put, without}
-use Rattle.rules.specs.declared.loads.RatioLine.{RatioLine}
-use Rattle.rules.specs.declared.loads.RatioFile.{RatioFile}
 use Rattle.rules.specs.Sums.{sum_over}
 use Rattle.rules.specs.declared.calls.Call.{Call}
 use Rattle.rules.specs.declared.calls.Call.TheVariants.{Enrol, Regular, OwnQuota, Close}

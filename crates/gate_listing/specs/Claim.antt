@@ -1,6 +1,6 @@
 -- The listing after every list of calls and loads from a fresh gate: its rows are the history's, they keep their rules, and 1 never occurs.
 -- Claimed.antt proves it: `listing_demand`.
-use Rattle.std.specs.Prelude.{ℕ, zero, suc, ◌*◌, ◌≤◌, ◌≡◌, Bool, true, List, [], ◌∷◌, ltb, length}
+use Rattle.std.specs.Prelude.{ℕ, zero, suc, ◌*◌, ◌≤◌, ◌≡◌, true, List, [], ◌∷◌, ltb, length}
 use Rattle.std.proofs.Math.Seq.{paste}
 use Rattle.rules.specs.Tests.{pick}
 use Rattle.rules.specs.Quotas.{in_force}

@@ -1,32 +1,29 @@
 -- The proof of the claim about listings. Assumes nothing.
 use Prim.Native.Nat.{ℕ, zero, suc, ◌+◌, ◌*◌, ◌≤◌, ◌<◌}
-use Rattle.std.specs.Prelude.{◌≡◌, Bool, false, not, ◌&&◌, eqb, leb, ltb}
+use Rattle.std.specs.Prelude.{◌≡◌, Bool, false, ◌&&◌, eqb, ltb}
 use Rattle.std.proofs.Math.Path.{refl, ap}
 use Rattle.std.proofs.Common.{sym, ◌∙◌, arith}
 use Rattle.std.proofs.Math.Bool.{true}
-use mathlib.Core.List.{List, [], ◌∷◌}
-use borrow.Author.Tests.{le-leb, le-ltb, ne_eqb, eqb-true}
+use mathlib.Core.List.{List, ◌∷◌}
+use borrow.Author.Tests.{le-leb, le-ltb, eqb-true}
 use Rattle.std.proofs.Math.ListN.{length}
 use Rattle.std.proofs.Math.Seq.{paste}
 use Rattle.rules.specs.Tests.{pick, both}
-use Rattle.rules.specs.Limits.{is_code, is_class, brokerage, top_quota}
-use Rattle.rules.specs.Quotas.{own_under, in_force, is_none}
+use Rattle.rules.specs.Limits.{top_quota}
+use Rattle.rules.specs.Quotas.{own_under, in_force}
 use Rattle.rules.specs.Orders.{shanghai}
-use Rattle.rules.specs.Refusals.{unless_refused}
 use Rattle.rules.specs.Laws.{where_accepted}
 use Rattle.rules.specs.declared.quotas.Limit.{Limit}
 use Rattle.rules.specs.declared.quotas.Limit.TheVariants.{Nothing, At}
-use Rattle.rules.specs.declared.kinds.Money.{Money}
 use Rattle.rules.specs.declared.calls.Call.{Call}
 use Rattle.history.specs.Past.{History, at_opening, money_of}
 use Rattle.history.specs.Past as past
 use Rattle.history.specs.Runs.{after, after_all}
 use Rattle.register.specs.Layout.{group_count, group_at}
 use Rattle.register.specs.Records.{LimitFits}
-use Rattle.register.specs.Sound.{InRange}
 use Rattle.register.proofs.Sound.{group_sound, register_known}
 use Rattle.quota.specs.Asks.{is_sound, groups_enrolled, own_in_force}
-use Rattle.quota.specs.Rows.{Proper, OwnWithin, distinct_groups}
+use Rattle.quota.specs.Rows.{OwnWithin, distinct_groups}
 use Rattle.book.specs.Layout.{money_at}
 use Rattle.book.specs.Check.{book_ok}
 use Rattle.book.specs.Known.{book_known}
@@ -39,7 +36,7 @@ use Rattle.claim.specs.QuotaSim.{group_counts}
 use Rattle.claim.specs.OrderSums.{money-fits}
 use Rattle.claim.specs.Theorem.{Sim, row_is_lem}
 use Rattle.claim.proofs.Theorem.{run_sim, all_sim, opened_sim}
-use Rattle.rows.specs.Row.{signed_net, class_kept, at_most, limits_kept, row_obeys, row_kept, made_row, shown_row, row_at, shown_kept}
+use Rattle.rows.specs.Row.{limits_kept, row_obeys, row_kept, made_row, shown_row, row_at, shown_kept}
 use Rattle.rows.specs.declared.Row.{Row}
 use Rattle.rows.specs.declared.RowRead.{RowRead}
 use Rattle.listing.specs.Text.{listing_text, same_key, fresh, rows_kept, listing_kept, row_bytes}

@@ -1,6 +1,6 @@
 -- The gate's listing: "one group in enrolment order", into a lent buffer. 1 where the gate's memory is not sound or "a row would break its rules"; 22
 -- where the buffer is "shorter than 108 bytes a group; a longer one keeps its tail". A refusal writes no byte. (Lines and columns; Refusal list)
-use Rattle.std.specs.Prelude.{ℕ, zero, suc, ◌*◌, Bool, not, ◌&&◌, List, [], ◌∷◌, ltb, length}
+use Rattle.std.specs.Prelude.{ℕ, zero, suc, ◌*◌, not, ◌&&◌, List, [], ◌∷◌, ltb, length}
 use Rattle.std.proofs.Math.Seq.{paste}
 use Rattle.rules.specs.Refusals.{unsound_number, short_buffer_number, refusal, unless_refused}
 use Rattle.quota.specs.Asks.{groups_enrolled}

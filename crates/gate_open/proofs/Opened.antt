@@ -1,12 +1,12 @@
 -- The opening: words stored over a whole memory are that memory. Assumes nothing.
-use Prim.Native.Nat.{ℕ, zero, suc, ◌+◌, ◌*◌, ◌/◌, ◌≤◌}
+use Prim.Native.Nat.{ℕ, zero, suc, ◌+◌, ◌*◌, ◌≤◌}
 use mathlib.Core.Path.{◌≡◌, refl, sym, ap, ◌∙◌}
 use mathlib.Core.Bool.{Bool, true, false, ◌&&◌}
-use mathlib.Core.List.{List, [], ◌∷◌, ◌++◌, append-nil}
+use mathlib.Core.List.{List, [], ◌++◌, append-nil}
 use native.Mathlib.Omega.{arith}
 use borrow.Author.Tests.{le-leb, eqb-true}
 use lib.Dec.{eqb}
-use lib.ListN.{length, take, drop, drop_of_length-le, replicate, length-replicate}
+use lib.ListN.{length, drop, drop_of_length-le, replicate, length-replicate}
 use Rattle.rules.specs.Tests.{pick, both}
 use Rattle.rules.specs.Limits.{is_places}
 use Rattle.rules.specs.Refusals.{unsound_number, unless_refused}

@@ -1,6 +1,6 @@
 -- The table of answers, loads of ratios and what follows from them (2026-01). Expected values are worked out from document 02, request 2026-01, and from
 -- document 01 alone. What a file's bytes say is in ratiofile/specs: here a file is its nine numbers, or not of its form.
-use Rattle.std.specs.Prelude.{ℕ, zero, suc, ◌≡◌, refl, true, false, List, [], ◌∷◌, ◌++◌, pos, negsuc}
+use Rattle.std.specs.Prelude.{ℕ, zero, suc, ◌≡◌, refl, true, false, List, [], ◌∷◌, ◌++◌, negsuc}
 use Rattle.rules.specs.Money.{mils_of}
 use Rattle.rules.specs.Quotas.{quota_by, closed_quota}
 use Rattle.rules.specs.Orders.{is_buy, price_rule, worse_fill, net_of, shanghai, stops}
@@ -9,13 +9,11 @@ use Rattle.rules.specs.Loads.{load_rules}
 use Rattle.rules.specs.Keyed.{find, put, without}
 use Rattle.rules.specs.Sums.{when, sum_over}
 use Rattle.rules.specs.declared.loads.RatioLine.{RatioLine}
-use Rattle.rules.specs.declared.loads.RatioFile.{RatioFile}
-use Rattle.rules.specs.declared.calls.Call.{Call}
 use Rattle.rules.specs.declared.calls.Answer.{Answer}
 use Rattle.history.specs.Past.{History, at_opening, filled_money, open_in, bought_in, sold_in, money_in}
 use Rattle.history.specs.Answers.{is_taken, refusals, number_given, answer}
 use Rattle.history.specs.Runs.{Entry, Called, Loaded, load_refusal, accept, next, next_entry, answer_entry, after_all}
-use Rattle.history.specs.Told.{enrol, attach, regular, raise, withdraw, own_quota, order, fill, close, dash, at, Shown, row, quiet, shown}
+use Rattle.history.specs.Told.{enrol, attach, regular, raise, own_quota, order, fill, close, dash, at, Shown, row, quiet, shown}
 
 -- ---- the forms of a line
 

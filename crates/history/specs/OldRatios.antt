@@ -1,7 +1,7 @@
 -- "With 5/2, 1/1, 1/1 every answer to call 4 is the old one, proved for every base and class." (2026-01) Over whole calls and lists: while the ratios are the
 -- old ones, call 4 is answered by document 01's list; and lists whose loads all say 5/2, 1/1, 1/1 leave the history of their calls alone, so that
 -- every answer to every call is the old one (proofs/OldRatios.antt). Assumes nothing.
-use Prim.{Unit, tt}
+use Prim.{Unit}
 use Prim.Native.Nat.{ℕ}
 use Rattle.std.specs.Prelude.{◌≡◌}
 use Rattle.std.proofs.Math.Path.{ap}

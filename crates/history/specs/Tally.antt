@@ -1,16 +1,12 @@
 -- Article 16's sum over a list of calls and loads is open + bought − sold, for every part of the orders after every list: `article_16`, in proofs/Tally.antt.
 -- Each call moves money between the parts of the formula as it moves it between open, bought and sold. Assumes nothing.
 use Prim.Native.Nat.{ℕ, suc, ◌+◌, ◌-◌}
-use Rattle.std.specs.Prelude.{◌≡◌, Bool, cond, ◌≢◌, eqb, ltb, leb, ℤ, pos, negsuc}
+use Rattle.std.specs.Prelude.{◌≡◌, Bool, cond, ltb, pos, negsuc}
 use Rattle.std.proofs.Math.Path.{refl, ap}
-use Rattle.std.proofs.Common.{ltb-true, ltb-false, eqb-true, lt-ltb, le-ltb, get_or-set_same, get_or-set_other}
+use Rattle.std.proofs.Common.{ltb-true, ltb-false, lt-ltb, le-ltb}
 use Rattle.std.proofs.Math.Bool.{true, false}
 use native.Mathlib.Omega.{arith}
-use Rattle.std.proofs.lemmas.Bool.{eqb-false}
 use Rattle.std.proofs.Math.IntN.{sub_ℕ}
-use Rattle.rules.specs.Money.{mils}
-use Rattle.rules.specs.Sums.{when_add}
-use Rattle.history.specs.Past.{Filled}
 
 pub sub_same : (a b k : ℕ) → sub_ℕ (a + k) (b + k) ≡ sub_ℕ a b
 sub_same a b k = go (ltb a b) refl

@@ -14,7 +14,7 @@ use Rattle.columns.specs.declared.reading.Plain.{Plain}
 use Rattle.rows.specs.Row.{row_kept}
 use Rattle.rows.specs.declared.Row.{Row}
 use Rattle.listing.specs.Text.{is_set, millions_in, limit_put, limits_put, row_text, row_in, read_line, row_put, row_bytes}
-use Rattle.listing.specs.RowLaws.{Fitting, fitting, length-row}
+use Rattle.listing.specs.RowLaws.{Fitting, fitting}
 use Rattle.listing.specs.declared.lines.Line.{Line}
 
 -- ---- written

@@ -1,12 +1,12 @@
 -- The rooms of a listing as text, for people and scripts: a line a row, code 5 columns, class 2, the room left 21, line feed. "-" stands for the room where
 -- the maximum is none. A text that is no listing has the one line of its refusal. Not in the papers; the columns are as under "Lines and columns".
-use Rattle.std.specs.Prelude.{ℕ, zero, suc, ◌+◌, ◌*◌, ◌-◌, ◌/◌, ◌≤◌, ◌<◌, ◌≡◌, refl, Bool, true, false, List, [], ◌∷◌, ◌++◌, leb, ltb, length, get_or, take, drop}
+use Rattle.std.specs.Prelude.{ℕ, zero, suc, ◌+◌, ◌*◌, ◌≤◌, ◌<◌, ◌≡◌, refl, Bool, true, false, List, [], ◌∷◌, ◌++◌, leb, ltb, length, get_or, take}
 use Rattle.std.proofs.Common.{ap, sym, ◌∙◌, append_assoc, append-nil, arith, le-leb, leb-true, length-append}
 use Rattle.std.proofs.Math.Seq.{paste}
 use Rattle.rules.specs.Tests.{pick, both}
 use Rattle.rules.specs.Limits.{most_groups, top_quota, mils_aMillion, top_money}
 use Rattle.rules.specs.Refusals.{malformed_number}
-use Rattle.columns.specs.Column.{marked, column, signed_text, optional_text, fits, signed_fits, optional_put, signed_put}
+use Rattle.columns.specs.Column.{marked, column, signed_text, optional_text, signed_fits, optional_put, signed_put}
 use Rattle.columns.specs.Laws.{true_fits, length_marked, length_optional, length-signed}
 use Rattle.rows.specs.Row.{row_kept}
 use Rattle.rows.specs.Room.{room_of, room_small, room_sized}

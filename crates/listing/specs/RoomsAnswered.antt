@@ -1,6 +1,6 @@
 -- The rooms' part of the table of answers: texts, and what `readlisting` writes for them, by computation. Expected values are worked out by hand from document
 -- 01: own quota × 1,000,000,000 − net. Assumes nothing.
-use Rattle.std.specs.Prelude.{ℕ, ◌≡◌, refl, List, []}
+use Rattle.std.specs.Prelude.{◌≡◌, refl, []}
 use Prim.Native.String.{String, ◌++◌}
 use Rattle.rules.specs.Money.{mils_of}
 use Rattle.columns.specs.Column.{byte_at, marked, dashed, number, digits, same, minus, read_plain, read_optional, read_signed, plain_at, optional_at, signed_at, same_at}

@@ -1,5 +1,5 @@
 -- The laws of one row: its text is read back (`row-good`, `row_back`), and no other text is read as it (`good_text`, `good_kept`). Assumes nothing.
-use Rattle.std.specs.Prelude.{ℕ, ◌+◌, ◌-◌, ◌≤◌, ◌≡◌, refl, Bool, true, false, ◌&&◌, List, [], ◌∷◌, ◌++◌, eqb, leb, length, take}
+use Rattle.std.specs.Prelude.{ℕ, ◌+◌, ◌≤◌, ◌≡◌, refl, Bool, true, false, ◌&&◌, List, [], ◌∷◌, ◌++◌, eqb, leb, length, take}
 use Rattle.std.proofs.Common.{ap, sym, ◌∙◌, arith, leb-true, le-leb, eqb-true, take_all, take-add}
 use Rattle.std.proofs.lemmas.Bool.{false≢true}
 use Rattle.rules.specs.Tests.{pick, both}

@@ -1,8 +1,7 @@
 -- Every call has one shape: a refusal, the change where it is 0, the answer. Assumes nothing.
-use Prim.Native.Nat.{ℕ, zero, suc}
-use mathlib.Core.Path.{◌≡◌, refl, sym, ap, ◌∙◌}
+use Prim.Native.Nat.{ℕ}
+use mathlib.Core.Path.{◌≡◌, sym, ap, ◌∙◌}
 use mathlib.Core.List.{List}
-use native.Mathlib.Omega.{arith}
 use Rattle.rules.specs.Calls.{accepted, refused}
 use Rattle.rules.specs.Laws.{where_refused, where_accepted}
 use Rattle.rules.specs.Refusals.{unless_refused}

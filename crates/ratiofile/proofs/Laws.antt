@@ -1,6 +1,6 @@
 -- Both laws of the file: what is written is read back (`file_back`), and what is formed is what is written for it (`file_only`). Over specs/Laws.antt. Assumes nothing.
 -- Here, and not in specs/, so that a wrong definition is refused by the first theorem that it breaks, and not by those that rest on it.
-use Rattle.std.specs.Prelude.{ℕ, ◌+◌, ◌≡◌, refl, Bool, true, false, ◌&&◌, List, [], ◌∷◌, ◌++◌, eqb, length, take, drop, get_or}
+use Rattle.std.specs.Prelude.{ℕ, ◌≡◌, refl, Bool, true, false, ◌&&◌, List, [], ◌∷◌, ◌++◌, eqb, length, take, drop, get_or}
 use Rattle.std.proofs.Common.{ap, sym, ◌∙◌, arith, eqb-true, take_all, take-add, drop-cons}
 use Rattle.std.proofs.lemmas.Bool.{false≢true}
 use Rattle.rules.specs.Tests.{pick, both}
@@ -9,7 +9,7 @@ use Rattle.columns.specs.Column.{marked, plain_at, part}
 use Rattle.columns.specs.Pastes.{plain_at_only, length_part}
 use Rattle.ratiofile.specs.File.{line_bytes, file_bytes, line_text, file_text, line_fits, file_fits}
 use Rattle.ratiofile.specs.File.{line_in, first_line, second_line, third_line, file_formed, file_of, not_formed, file_in}
-use Rattle.ratiofile.specs.Laws.{length-file, feed, line_back, FileRead}
+use Rattle.ratiofile.specs.Laws.{length-file, line_back, FileRead}
 
 first_part : (f : RatioFile) → part (file_text f) 0 line_bytes ≡ line_text f.first
 unfolding file_text line_text marked

@@ -1,7 +1,7 @@
 -- Both laws of the file: nine numbers that fit their columns are read back from their text (`file_back`), and a text that is formed is exactly the text
 -- that is written for what is read, 33 bytes (`file_only`). Both are in proofs/Laws.antt. Of any other text nothing is kept (`file-none`). A file that a load may take has room in its
 -- columns (`in_range_fits`). Assumes nothing.
-use Rattle.std.specs.Prelude.{ℕ, suc, ◌+◌, ◌<◌, ◌≤◌, ◌≡◌, refl, Bool, true, false, ◌&&◌, List, [], ◌∷◌, ◌++◌, length, get_or}
+use Rattle.std.specs.Prelude.{ℕ, ◌<◌, ◌≡◌, refl, Bool, true, false, ◌&&◌, List, [], ◌∷◌, ◌++◌, length, get_or}
 use Rattle.std.proofs.Common.{sym, append_assoc, arith, lt-ltb, length-append}
 use Rattle.std.proofs.lemmas.Bool.{false≢true}
 use Rattle.rules.specs.Tests.{pick, both, within_true}

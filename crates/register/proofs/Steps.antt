@@ -1,8 +1,7 @@
 -- Steps of the codec's proofs: what a record's part of the register is, and what storing it makes of the register. Assumes nothing.
-use Prim.Native.Nat.{ℕ, ◌+◌, ◌*◌, ◌-◌, ◌≤◌, ◌<◌}
+use Prim.Native.Nat.{ℕ, ◌+◌, ◌-◌, ◌≤◌, ◌<◌}
 use mathlib.Core.Path.{◌≡◌, refl, ap, sym, ◌∙◌}
 use mathlib.Core.List.{List, [], ◌∷◌, ◌++◌, append_assoc}
-use mathlib.Core.Bool.{true}
 use mathlib.Core.Option.{some}
 use native.Mathlib.Omega.{arith}
 use borrow.Author.Tests.{eq-eqb, ne_eqb, le-leb, lt-ltb, le-ltb}
@@ -18,8 +17,8 @@ use Rattle.rules.specs.Keyed.{find, is_there, or_else}
 use Rattle.words.specs.Words.{run, splice, run_at, splice-after}
 use Rattle.pairs.specs.Pairs.{place_of, removed_word}
 use Rattle.pairs.specs.Laws.{place-fits, place_value, place_none, length_removed}
-use Rattle.register.specs.Layout.{unit_count, unit_column, unit_group_column, units_of, unit_place, closed_units, remove_unit, limit_of, emergency_of, group_of, group_at, limit_word, holder_word, figure_word, words_of, place, held, stands, record_at, put_words, put_record, put_group, emergency_column, first_unit, first_unit_group, holder_column, record_words, register_length}
-use Rattle.register.specs.Records.{here, length-words, length_record, record_word}
+use Rattle.register.specs.Layout.{unit_count, unit_column, unit_group_column, units_of, unit_place, closed_units, remove_unit, limit_of, emergency_of, group_of, group_at, limit_word, holder_word, figure_word, words_of, place, held, record_at, put_words, put_record, put_group, emergency_column, first_unit, first_unit_group, holder_column, record_words, register_length}
+use Rattle.register.specs.Records.{here, length_record, record_word}
 use Rattle.register.specs.Views.{units_is, unit_there, length-column, length_group_column, as_long}
 use Rattle.words.specs.Each.{same}
 use Rattle.register.specs.declared.groups.Group.{Group}

@@ -3,7 +3,6 @@
 use Prim.Native.Nat.{ℕ, ◌+◌, ◌≤◌, ◌<◌}
 use Rattle.std.specs.Prelude.{◌≡◌, refl}
 use mathlib.Core.List.{List}
-use Rattle.rules.specs.declared.quotas.Ratio.{Ratio}
 use Rattle.words.specs.Alike.{AlikeAt}
 use Rattle.figures.specs.Figures.{standing_of}
 use Rattle.register.specs.Layout.{used_head, group_count, unit_count, place, first_unit, first_unit_group, at_declarers, at_quotas, group_at, record_words, first_declarer}

@@ -1,6 +1,5 @@
 -- The table of ratios in the register's header: what is put is read back, and no other word changes (2026-01; proofs/Ratios.antt). Assumes nothing.
-use Rattle.std.specs.Prelude.{◌≤◌, refl}
-use Rattle.std.proofs.Common.{ap, sym}
+use Rattle.std.specs.Prelude.{◌≤◌}
 use Rattle.rules.specs.Limits.{top_ratio}
 use Rattle.rules.specs.declared.quotas.Ratio.{Ratio}
 

@@ -1,11 +1,10 @@
 -- The row of a group: sums that do not wrap, and the three ways in which a row is refused or shown. Assumes nothing.
-use Prim.Native.Nat.{ℕ, zero, suc, ◌+◌, ◌-◌, ◌≤◌, ◌<◌}
-use mathlib.Core.Path.{◌≡◌, refl, sym, ap, ◌∙◌}
+use Prim.Native.Nat.{ℕ, ◌+◌, ◌-◌, ◌≤◌, ◌<◌}
+use mathlib.Core.Path.{◌≡◌, sym, ap, ◌∙◌}
 use mathlib.Core.Bool.{Bool, true, false, not, ◌&&◌}
 use mathlib.Core.List.{List}
-use native.Mathlib.Omega.{arith}
 use borrow.Author.Tests.{not-true, not-false, leb-true, lt-ltb, le-ltb}
-use lib.Dec.{leb, ltb}
+use lib.Dec.{leb}
 use Rattle.rules.specs.Tests.{both}
 use Rattle.rules.specs.Limits.{top_code, top_money}
 use Rattle.rules.specs.Money.{mils}
@@ -18,7 +17,6 @@ use Rattle.register.specs.Layout.{group_at}
 use Rattle.quota.specs.Asks.{own_in_force}
 use Rattle.book.specs.Layout.{money_at}
 use Rattle.orders.specs.Booking.{money_fits}
-use Rattle.rows.specs.declared.Net.{Net}
 use Rattle.rows.specs.declared.Row.{Row}
 use Rattle.rows.specs.declared.RowRead.{RowRead}
 use Rattle.rows.specs.Row.{signed_net, class_kept, limits_kept, row_obeys, net_kept, row_kept, refused_row, made_row, shown_row, row_refusal, row_at, row_of}

@@ -1,7 +1,7 @@
 -- The room left to a group: own quota − net, in mils, as sign and size; none where the maximum is none, since no own quota is in force then. It is not
 -- in the papers: a router works it out of a row, and this is what it has to be. "A buy is accepted only if net, before it, is below the own quota" (Orders):
 -- so a buy passes exactly where there is room, `room_lets_in`.
-use Rattle.std.specs.Prelude.{ℕ, zero, suc, ◌+◌, ◌-◌, ◌*◌, ◌≤◌, min, ◌≡◌, refl, Bool, true, false, not, cond, ◌&&◌, ltb, ℤ, pos, negsuc, ◌-ℤ◌}
+use Rattle.std.specs.Prelude.{ℕ, zero, suc, ◌+◌, ◌-◌, ◌*◌, ◌≤◌, min, ◌≡◌, refl, Bool, true, false, not, cond, ◌&&◌, ltb, pos, negsuc, ◌-ℤ◌}
 use Rattle.std.proofs.Common.{sym, ap, ◌∙◌, arith, lt-ltb, le-ltb, ltb-true, ltb-false}
 use Rattle.std.proofs.lemmas.Bool.{false≢true}
 use Rattle.rules.specs.Tests.{pick}
@@ -16,7 +16,7 @@ use Rattle.rows.specs.declared.Net.{Net}
 use Rattle.rows.specs.declared.Row.{Row}
 use Rattle.rows.specs.declared.Room.{Room}
 use Rattle.rows.specs.Row.{signed, row_kept, net_is}
-use Rattle.rows.specs.Kept.{Ruled, ruled}
+use Rattle.rows.specs.Kept.{ruled}
 
 -- a − b as sign and size
 unfoldable pub difference : ℕ → ℕ → Net

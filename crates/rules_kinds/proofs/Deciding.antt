@@ -1,18 +1,15 @@
 -- What a kind decides, for buys that are no repo lending and for numbers that are no kind; and net in natural numbers. Assumes nothing.
-use Prim.Native.Nat.{ℕ, ◌+◌, ◌-◌, suc, ◌≤◌, ◌<◌}
+use Prim.Native.Nat.{ℕ, ◌+◌, ◌≤◌, ◌<◌}
 use mathlib.Core.Path.{◌≡◌, refl, sym, ◌∙◌}
-use mathlib.Core.Bool.{Bool, true, false, not, cond, ◌&&◌}
+use mathlib.Core.Bool.{Bool, true, false, not}
 use mathlib.Core.Logic.{◌≢◌, ◌⊎◌, inl, inr}
 use native.Mathlib.Omega.{arith}
-use borrow.Author.Tests.{ne_eqb, le-leb, lt-leb, leb-true, leb-false, ltb-true, ltb-false, lt-ltb, le-ltb}
-use lib.Dec.{leb, ltb, eqb}
-use lib.IntN.{ℤ, pos, negsuc, sub_ℕ}
-use lib.Signed.{lt_z}
+use borrow.Author.Tests.{ne_eqb, leb-true, leb-false, lt-ltb, le-ltb}
+use lib.Dec.{leb, ltb}
 use Rattle.rules.specs.Tests.{within, true_within, below_range, above_range}
 use Rattle.rules.specs.Limits.{is_price}
 use Rattle.rules.specs.Orders.{is_buy, price_rule, worse_fill, decided_by, net_of, shanghai, below_pos}
 use Rattle.rules.specs.declared.money.Mils.{Mils}
-use Rattle.rules.specs.declared.kinds.Decided.{Decided}
 use Rattle.rules.specs.declared.kinds.Money.{Money}
 
 outside : (low high x : ℕ) → (x < low) ⊎ (high < x) → within low high x ≡ false

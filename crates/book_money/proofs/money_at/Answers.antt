@@ -1,7 +1,6 @@
 -- `book_money::money_at` meets its contract. Assumes nothing.
 use borrow.Author.Tests.{lt-ltb, le-ltb}
 use Rattle.book.specs.Layout.{money_at}
-use borrow.Author.Rules.{rules}
 use Rattle.book_money.proofs.money_at.Goals as goal
 
 pub returns-then-group-ge64 : goal.returns-then-group-ge64

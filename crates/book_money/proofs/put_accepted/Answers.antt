@@ -1,6 +1,5 @@
 -- `book_money::put_accepted` meets its contract. Assumes nothing.
 use Rattle.book.specs.Layout.{put_accepted}
-use borrow.Author.Rules.{rules}
 use Rattle.book_money.proofs.put_accepted.Goals as goal
 
 pub returns : goal.returns

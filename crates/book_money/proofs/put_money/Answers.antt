@@ -1,7 +1,6 @@
 -- `book_money::put_money` meets its contract. Assumes nothing.
 use borrow.Author.Tests.{lt-ltb, le-ltb}
 use Rattle.book.specs.Layout.{put_money}
-use borrow.Author.Rules.{rules}
 use Rattle.book_money.proofs.put_money.Goals as goal
 
 pub returns-then-group-ge64 : goal.returns-then-group-ge64

@@ -1,9 +1,7 @@
 -- `book_places::place_at` meets its contract. Assumes nothing.
-use mathlib.Core.Path.{refl}
 use native.Mathlib.Omega.{arith}
 use Rattle.rules.specs.Tests.{true_within, above_range}
 use Rattle.book.specs.Layout.{place_at}
-use borrow.Author.Rules.{rules}
 use Rattle.book_places.proofs.place_at.Goals as goal
 
 pub returns-then-k-eq0 : goal.returns-then-k-eq0

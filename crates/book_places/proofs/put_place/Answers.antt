@@ -2,7 +2,6 @@
 use native.Mathlib.Omega.{arith}
 use Rattle.rules.specs.Tests.{true_within, above_range}
 use Rattle.book.specs.Layout.{put_place}
-use borrow.Author.Rules.{rules}
 use Rattle.book_places.proofs.put_place.Goals as goal
 
 pub returns-then-k-eq0 : goal.returns-then-k-eq0

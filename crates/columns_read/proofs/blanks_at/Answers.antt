@@ -1,12 +1,6 @@
 -- `columns_read::blanks_at` meets its contract. Assumes nothing.
-use Prim.Native.Nat.{◌+◌, ◌-◌, ◌≤◌}
-use mathlib.Core.Path.{◌≡◌}
 use native.Mathlib.Omega.{arith}
-use lib.ListN.{drop}
-use Rattle.columns.specs.Column.{part}
-use Rattle.columns.specs.Scan.{blanks}
 use Rattle.columns.proofs.Steps.{blanks_here, blanks_on, blanks_over}
-use borrow.Author.Rules.{rules}
 use Rattle.columns_read.proofs.blanks_at.Goals as goal
 
 pub returns-then-text-at-ne32 : goal.returns-then-text-at-ne32

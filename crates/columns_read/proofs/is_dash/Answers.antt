@@ -1,12 +1,9 @@
 -- `columns_read::is_dash` meets its contract. Assumes nothing.
-use Prim.Native.Nat.{◌-◌, ◌≤◌}
-use mathlib.Core.Path.{◌≡◌, sym, ◌∙◌}
+use mathlib.Core.Path.{sym, ◌∙◌}
 use native.Mathlib.Omega.{arith}
-use lib.ListN.{drop}
-use Rattle.columns.specs.Column.{dashed, same, part}
+use Rattle.columns.specs.Column.{dashed}
 use Rattle.columns.specs.Laws.{length-dashed}
 use Rattle.columns.proofs.Steps.{dashed-at, same_on, same_not, same_over}
-use borrow.Author.Rules.{rules}
 use Rattle.columns_read.proofs.is_dash.Goals as goal
 
 pub returns-then-text-at : goal.returns-then-text-at

@@ -1,12 +1,8 @@
 -- `columns_read::is_dash` meets its contract. Assumes nothing.
 use Prim.Native.Nat.{◌-◌, ◌≤◌}
-use mathlib.Core.Path.{◌≡◌, sym, ◌∙◌}
-use native.Mathlib.Omega.{arith}
+use mathlib.Core.Path.{◌≡◌}
 use lib.ListN.{drop}
 use Rattle.columns.specs.Column.{dashed, same, part}
-use Rattle.columns.specs.Laws.{length-dashed}
-use Rattle.columns.proofs.Steps.{dashed-at, same_on, same_not, same_over}
-use borrow.Author.Rules.{rules}
 use Rattle.columns_read.proofs.is_dash.Given as goal
 
 abbrev pub invariant-loop-i : goal.invariant-loop-i

@@ -1,11 +1,7 @@
 -- `columns_read::minus_at` meets its contract. Assumes nothing.
-use Prim.Native.Nat.{◌-◌, ◌≤◌}
-use mathlib.Core.Path.{◌≡◌, sym, ◌∙◌}
+use mathlib.Core.Path.{sym, ◌∙◌}
 use native.Mathlib.Omega.{arith}
-use lib.ListN.{drop}
-use Rattle.columns.specs.Column.{minus, part}
 use Rattle.columns.proofs.Steps.{minus_here, minus_on, minus_over}
-use borrow.Author.Rules.{rules}
 use Rattle.columns_read.proofs.minus_at.Goals as goal
 
 pub returns-then-text-at-eq45 : goal.returns-then-text-at-eq45

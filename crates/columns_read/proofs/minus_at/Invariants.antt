@@ -1,11 +1,8 @@
 -- `columns_read::minus_at` meets its contract. Assumes nothing.
 use Prim.Native.Nat.{◌-◌, ◌≤◌}
-use mathlib.Core.Path.{◌≡◌, sym, ◌∙◌}
-use native.Mathlib.Omega.{arith}
+use mathlib.Core.Path.{◌≡◌}
 use lib.ListN.{drop}
 use Rattle.columns.specs.Column.{minus, part}
-use Rattle.columns.proofs.Steps.{minus_here, minus_on, minus_over}
-use borrow.Author.Rules.{rules}
 use Rattle.columns_read.proofs.minus_at.Given as goal
 
 abbrev pub invariant-loop-i : goal.invariant-loop-i

@@ -5,7 +5,6 @@ use Rattle.columns.specs.Column.{holds, part}
 use Rattle.columns.specs.Pastes.{length_part, optional_read}
 use Rattle.columns.specs.Room.{held, denied}
 use Rattle.columns.proofs.Answers.{optional_short, optional_missing, optional_given}
-use borrow.Author.Rules.{rules}
 use Rattle.std.proofs.Common.{ap}
 use mathlib.Core.Bool.{not}
 use Rattle.columns_read.proofs.optional_at.Goals as goal

@@ -5,7 +5,6 @@ use Rattle.columns.specs.Column.{holds}
 use Rattle.columns.specs.Pastes.{plain_read}
 use Rattle.columns.specs.Room.{held, denied}
 use Rattle.columns.proofs.Answers.{plain_short}
-use borrow.Author.Rules.{rules}
 use Rattle.std.proofs.Common.{ap}
 use mathlib.Core.Bool.{not}
 use Rattle.columns_read.proofs.plain_at.Goals as goal

@@ -3,7 +3,6 @@ use Prim.Native.Nat.{◌-◌}
 use mathlib.Core.Path.{refl, ◌∙◌}
 use Rattle.columns.specs.Pastes.{digits-read}
 use Rattle.columns.proofs.Answers.{plain_long, plain-run}
-use borrow.Author.Rules.{rules}
 use Rattle.columns_read.proofs.read_plain.Goals as goal
 
 pub returns-then-n-gt19 : goal.returns-then-n-gt19

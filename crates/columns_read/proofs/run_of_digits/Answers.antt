@@ -1,13 +1,10 @@
 -- `columns_read::run_of_digits` meets its contract. Assumes nothing.
-use Prim.Native.Nat.{◌+◌, ◌*◌, ◌-◌, ◌^◌, ◌≤◌}
-use mathlib.Core.Path.{◌≡◌, refl}
-use mathlib.Core.Bool.{◌&&◌}
+use Prim.Native.Nat.{◌+◌}
+use mathlib.Core.Path.{refl}
 use native.Mathlib.Omega.{arith}
-use lib.ListN.{drop, get_or}
-use Rattle.columns.specs.Column.{digit as digitOf, number as number_of, part}
-use Rattle.columns.specs.Scan.{all_digits}
+use lib.ListN.{get_or}
+use Rattle.columns.specs.Column.{digit as digitOf}
 use Rattle.columns.proofs.Steps.{all_on, all_over, run_on, run_fits, run_over}
-use borrow.Author.Rules.{rules}
 use Rattle.columns_read.proofs.run_of_digits.Goals as goal
 
 pub overflow_mul-number : goal.overflow_mul-number

@@ -1,13 +1,10 @@
 -- `columns_read::run_of_digits` meets its contract. Assumes nothing.
 use Prim.Native.Nat.{◌+◌, ◌*◌, ◌-◌, ◌^◌, ◌≤◌}
-use mathlib.Core.Path.{◌≡◌, refl}
+use mathlib.Core.Path.{◌≡◌}
 use mathlib.Core.Bool.{◌&&◌}
-use native.Mathlib.Omega.{arith}
-use lib.ListN.{drop, get_or}
-use Rattle.columns.specs.Column.{digit as digitOf, number as number_of, part}
+use lib.ListN.{drop}
+use Rattle.columns.specs.Column.{number as number_of, part}
 use Rattle.columns.specs.Scan.{all_digits}
-use Rattle.columns.proofs.Steps.{all_on, all_over, run_on, run_fits, run_over}
-use borrow.Author.Rules.{rules}
 use Rattle.columns_read.proofs.run_of_digits.Given as goal
 
 abbrev pub invariant-loop-i : goal.invariant-loop-i

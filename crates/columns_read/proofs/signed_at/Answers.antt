@@ -6,7 +6,6 @@ use Rattle.columns.specs.Laws.{digits_small}
 use Rattle.columns.specs.Pastes.{length_part, digits-read, marked-read, signed-read}
 use Rattle.columns.specs.Room.{held, denied}
 use Rattle.columns.proofs.Answers.{signed_short, signed_of}
-use borrow.Author.Rules.{rules}
 use Rattle.std.proofs.Common.{ap}
 use mathlib.Core.Bool.{not}
 use Rattle.columns_read.proofs.signed_at.Goals as goal

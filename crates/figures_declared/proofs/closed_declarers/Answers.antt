@@ -1,11 +1,8 @@
 -- `figures_declared::closed_declarers` meets its contract. The loop's invariant: from the place up to i each entry is the next one's. Assumes nothing.
-use Prim.Native.Nat.{ℕ, suc, ◌+◌, ◌≤◌, ◌<◌, ◌-◌}
-use mathlib.Core.Path.{◌≡◌, ap, ◌∙◌}
-use mathlib.Core.List.{List}
+use mathlib.Core.Path.{◌≡◌}
 use native.Mathlib.Omega.{arith}
-use lib.ListN.{length, drop, set, get_or}
-use lib.Seq.{paste}
-use Rattle.figures_declared.proofs.Walk.{closing-start, closing_turn, closing_end}
+use lib.ListN.{length}
+use Rattle.figures_declared.proofs.Walk.{closing_turn, closing_end}
 use borrow.Author.Rules.{rules}
 use Rattle.figures_declared.proofs.closed_declarers.Goals as goal
 

@@ -1,12 +1,8 @@
 -- `figures_declared::closed_declarers` meets its contract. The loop's invariant: from the place up to i each entry is the next one's. Assumes nothing.
-use Prim.Native.Nat.{ℕ, suc, ◌+◌, ◌≤◌, ◌<◌, ◌-◌}
-use mathlib.Core.Path.{◌≡◌, ap, ◌∙◌}
-use mathlib.Core.List.{List}
-use native.Mathlib.Omega.{arith}
-use lib.ListN.{length, drop, set, get_or}
+use Prim.Native.Nat.{suc, ◌≤◌, ◌-◌}
+use mathlib.Core.Path.{◌≡◌}
+use lib.ListN.{drop}
 use lib.Seq.{paste}
-use Rattle.figures_declared.proofs.Walk.{closing-start, closing_turn, closing_end}
-use borrow.Author.Rules.{rules}
 use Rattle.figures_declared.proofs.closed_declarers.Given as goal
 
 abbrev pub invariant-loop-i : goal.invariant-loop-i

@@ -1,6 +1,6 @@
 -- `figures_declared::count_of` meets its contract. Assumes nothing.
 use mathlib.Core.Path.{◌≡◌, sym, ◌∙◌}
-use lib.ListN.{length, length-map}
+use lib.ListN.{length}
 use borrow.Author.Rules.{rules}
 use Rattle.figures.specs.Laws.{standing-length}
 use Rattle.figures_declared.proofs.count_of.Goals as goal

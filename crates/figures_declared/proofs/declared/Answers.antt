@@ -1,7 +1,6 @@
 -- `figures_declared::declared` meets its contract. Assumes nothing.
 use mathlib.Core.Path.{◌≡◌, sym, ◌∙◌}
-use native.Mathlib.Omega.{arith}
-use lib.ListN.{length, length-map}
+use lib.ListN.{length}
 use Rattle.figures.specs.Laws.{place-stands, not_full, declared_there, declared-full, declared-room}
 use borrow.Author.Rules.{rules}
 use Rattle.figures_declared.proofs.declared.Goals as goal

@@ -1,9 +1,7 @@
 -- `figures_declared::place_in` meets its contract. The loop's invariant: the place sought is that among the keys that are left, after i of them. Assumes nothing.
-use Prim.Native.Nat.{ℕ, ◌+◌, ◌≤◌, ◌<◌, ◌-◌}
 use mathlib.Core.Path.{◌≡◌}
 use native.Mathlib.Omega.{arith}
-use lib.ListN.{length, drop, take}
-use Rattle.figures.specs.Places.{place_in}
+use lib.ListN.{length}
 use Rattle.figures_declared.proofs.Walk.{place_here, place_on, place_end}
 use borrow.Author.Rules.{rules}
 use Rattle.figures_declared.proofs.place_in.Goals as goal

@@ -1,11 +1,8 @@
 -- `figures_declared::place_in` meets its contract. The loop's invariant: the place sought is that among the keys that are left, after i of them. Assumes nothing.
-use Prim.Native.Nat.{ℕ, ◌+◌, ◌≤◌, ◌<◌, ◌-◌}
+use Prim.Native.Nat.{◌+◌, ◌≤◌, ◌-◌}
 use mathlib.Core.Path.{◌≡◌}
-use native.Mathlib.Omega.{arith}
-use lib.ListN.{length, drop, take}
+use lib.ListN.{drop, take}
 use Rattle.figures.specs.Places.{place_in}
-use Rattle.figures_declared.proofs.Walk.{place_here, place_on, place_end}
-use borrow.Author.Rules.{rules}
 use Rattle.figures_declared.proofs.place_in.Given as goal
 
 abbrev pub invariant-loop-i : goal.invariant-loop-i

@@ -1,6 +1,6 @@
 -- `figures_declared::stands` meets its contract. Assumes nothing.
 use mathlib.Core.Path.{◌≡◌, sym}
-use lib.ListN.{length, length-map}
+use lib.ListN.{length}
 use Rattle.figures.specs.Laws.{standing-place}
 use borrow.Author.Rules.{rules}
 use Rattle.figures_declared.proofs.stands.Goals as goal

@@ -1,14 +1,10 @@
 -- `figures_declared::sum_in` meets its contract. The loop's invariant: the sum so far and the sum of what is left are the sum; i quotas held to the range do not wrap. Assumes nothing.
-use Prim.Native.Nat.{ℕ, ◌+◌, ◌*◌, ◌≤◌, ◌<◌, ◌-◌}
+use Prim.Native.Nat.{◌+◌, ◌*◌, ◌≤◌, ◌-◌}
 use mathlib.Core.Path.{◌≡◌}
-use native.Mathlib.Omega.{arith}
-use lib.ListN.{length, drop, take}
+use lib.ListN.{drop, take}
 use Rattle.rules.specs.Limits.{top_quota}
-use Rattle.rules.specs.Money.{millions}
 use Rattle.rules.specs.Sums.{sum_over}
 use Rattle.figures.specs.Figures.{held}
-use Rattle.figures_declared.proofs.Walk.{sum_over_on, sum_over_end}
-use borrow.Author.Rules.{rules}
 use Rattle.figures_declared.proofs.sum_in.Given as goal
 
 abbrev pub invariant-loop-i : goal.invariant-loop-i

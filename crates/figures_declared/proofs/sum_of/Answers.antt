@@ -2,7 +2,7 @@
 use mathlib.Core.Path.{◌≡◌, ap, ◌∙◌, sym}
 use Prim.Native.Nat.{ℕ}
 use mathlib.Core.List.{List}
-use lib.ListN.{length, take, length-map}
+use lib.ListN.{length, take}
 use Rattle.rules.specs.Money.{millions}
 use Rattle.rules.specs.declared.money.Millions.{Millions}
 use Rattle.rules.specs.Sums.{sum_over}

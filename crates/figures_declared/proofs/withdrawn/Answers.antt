@@ -3,7 +3,7 @@ use Prim.Native.Nat.{ℕ}
 use mathlib.Core.Path.{◌≡◌, ap, sym, ◌∙◌}
 use Rattle.figures.specs.Figures.{closed_figures}
 use native.Mathlib.Omega.{arith}
-use lib.ListN.{length, length-map}
+use lib.ListN.{length}
 use Rattle.figures.specs.Laws.{place-stands, withdrawn_there, withdrawn_absent}
 use borrow.Author.Rules.{rules}
 use Rattle.figures_declared.proofs.withdrawn.Goals as goal

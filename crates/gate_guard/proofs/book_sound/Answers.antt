@@ -1,6 +1,5 @@
 -- `gate_guard::book_sound` meets its contract. Assumes nothing.
 use Rattle.claim.specs.Step.{book_sound}
-use borrow.Author.Rules.{rules}
 use Rattle.gate_guard.proofs.book_sound.Goals as goal
 
 pub returns : goal.returns

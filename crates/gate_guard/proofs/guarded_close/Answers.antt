@@ -1,6 +1,5 @@
 -- `gate_guard::guarded_close` meets its contract. Assumes nothing.
-use Rattle.gate_guard.proofs.Guarded.{close_unsound, close-refused, close-accepted}
-use borrow.Author.Rules.{rules}
+use Rattle.gate_guard.proofs.Guarded.{close-refused}
 use Rattle.std.proofs.Common.{ap}
 use mathlib.Core.Bool.{not}
 use Rattle.gate_guard.proofs.guarded_close.Goals as goal

@@ -1,6 +1,5 @@
 -- `gate_guard::guarded_enrol` meets its contract. Assumes nothing.
-use Rattle.gate_guard.proofs.Guarded.{enrol_unsound, enrol-refused, enrol-accepted}
-use borrow.Author.Rules.{rules}
+use Rattle.gate_guard.proofs.Guarded.{enrol-refused, enrol-accepted}
 use Rattle.std.proofs.Common.{ap}
 use mathlib.Core.Bool.{not}
 use Rattle.gate_guard.proofs.guarded_enrol.Goals as goal

@@ -1,11 +1,7 @@
 -- `gate_listing::is_fresh` meets its contract. Assumes nothing.
-use Prim.Native.Nat.{◌-◌, ◌≤◌}
-use mathlib.Core.Path.{◌≡◌, refl, sym}
+use mathlib.Core.Path.{sym}
 use native.Mathlib.Omega.{arith}
-use Rattle.listing.specs.Text.{fresh}
-use Rattle.gate_listing.specs.Listed.{rows_on}
 use Rattle.gate_listing.proofs.Rows.{fresh_step, fresh_fail, fresh_end, key_is}
-use borrow.Author.Rules.{rules}
 use Rattle.gate_listing.proofs.is_fresh.Goals as goal
 
 pub returns-then-row-other : goal.returns-then-row-other

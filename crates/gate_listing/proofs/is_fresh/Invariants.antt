@@ -1,11 +1,8 @@
 -- `gate_listing::is_fresh` meets its contract. Assumes nothing.
 use Prim.Native.Nat.{◌-◌, ◌≤◌}
-use mathlib.Core.Path.{◌≡◌, refl, sym}
-use native.Mathlib.Omega.{arith}
+use mathlib.Core.Path.{◌≡◌}
 use Rattle.listing.specs.Text.{fresh}
 use Rattle.gate_listing.specs.Listed.{rows_on}
-use Rattle.gate_listing.proofs.Rows.{fresh_step, fresh_fail, fresh_end, key_is}
-use borrow.Author.Rules.{rules}
 use Rattle.gate_listing.proofs.is_fresh.Given as goal
 
 abbrev pub invariant-loop-i : goal.invariant-loop-i

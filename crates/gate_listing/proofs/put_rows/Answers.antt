@@ -1,13 +1,8 @@
 -- `gate_listing::put_rows` meets its contract. Assumes nothing.
-use Prim.Native.Nat.{◌*◌, ◌-◌, ◌≤◌}
-use mathlib.Core.Path.{◌≡◌, refl, ap}
+use mathlib.Core.Path.{ap}
 use native.Mathlib.Omega.{arith}
-use lib.ListN.{length}
-use lib.Seq.{paste}
 use Rattle.rows.specs.declared.RowRead.{RowRead}
-use Rattle.listing.specs.Text.{listing_text, row_bytes}
-use Rattle.gate_listing.specs.Listed.{rows_on}
-use Rattle.gate_listing.proofs.Rows.{put_start, put_step, put_end}
+use Rattle.gate_listing.proofs.Rows.{put_step}
 use borrow.Author.Rules.{rules}
 use Rattle.gate_listing.proofs.put_rows.Goals as goal
 

@@ -1,11 +1,7 @@
 -- `gate_listing::refusal_of_listing` meets its contract. Assumes nothing.
-use mathlib.Core.Path.{◌≡◌, sym, ap, ◌∙◌}
+use mathlib.Core.Path.{sym, ◌∙◌}
 use native.Mathlib.Omega.{arith}
-use borrow.Author.Tests.{not-true, not-false}
-use Rattle.listing.specs.Text.{rows_kept}
-use Rattle.gate_listing.specs.Listed.{rows_on}
 use Rattle.gate_listing.proofs.Rows.{list_unsound, enrolled_most, list_broken, list_short, list_clear, counted}
-use borrow.Author.Rules.{rules}
 use Rattle.gate_listing.proofs.refusal_of_listing.Goals as goal
 
 pub returns-then-not-host_ok : goal.returns-then-not-host_ok

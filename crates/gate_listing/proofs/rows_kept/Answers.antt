@@ -1,13 +1,7 @@
 -- `gate_listing::rows_kept` meets its contract. Assumes nothing.
-use Prim.Native.Nat.{◌-◌, ◌≤◌}
-use mathlib.Core.Path.{◌≡◌, refl, sym, ap, ◌∙◌}
-use mathlib.Core.Bool.{true, false}
+use mathlib.Core.Path.{sym}
 use native.Mathlib.Omega.{arith}
-use borrow.Author.Tests.{not-true, not-false}
-use Rattle.listing.specs.Text.{rows_kept, fresh}
-use Rattle.gate_listing.specs.Listed.{rows_on}
-use Rattle.gate_listing.proofs.Rows.{kept_broken, kept_repeated, kept_step, kept_end, kept_is, fresh_is, from_start}
-use borrow.Author.Rules.{rules}
+use Rattle.gate_listing.proofs.Rows.{kept_broken, kept_repeated, kept_step, kept_end, kept_is, fresh_is}
 use Rattle.gate_listing.proofs.rows_kept.Goals as goal
 
 pub returns-then-not-row_kept : goal.returns-then-not-row_kept

@@ -1,13 +1,8 @@
 -- `gate_listing::rows_kept` meets its contract. Assumes nothing.
 use Prim.Native.Nat.{◌-◌, ◌≤◌}
-use mathlib.Core.Path.{◌≡◌, refl, sym, ap, ◌∙◌}
-use mathlib.Core.Bool.{true, false}
-use native.Mathlib.Omega.{arith}
-use borrow.Author.Tests.{not-true, not-false}
-use Rattle.listing.specs.Text.{rows_kept, fresh}
+use mathlib.Core.Path.{◌≡◌}
+use Rattle.listing.specs.Text.{rows_kept}
 use Rattle.gate_listing.specs.Listed.{rows_on}
-use Rattle.gate_listing.proofs.Rows.{kept_broken, kept_repeated, kept_step, kept_end, kept_is, fresh_is, from_start}
-use borrow.Author.Rules.{rules}
 use Rattle.gate_listing.proofs.rows_kept.Given as goal
 
 abbrev pub invariant-loop-i : goal.invariant-loop-i

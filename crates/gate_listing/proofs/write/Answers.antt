@@ -1,12 +1,10 @@
 -- `gate_listing::write` meets its contract. Assumes nothing.
-use Prim.Native.Nat.{◌*◌}
-use mathlib.Core.Path.{◌≡◌, ap, sym, ◌∙◌}
+use mathlib.Core.Path.{ap, ◌∙◌}
 use native.Mathlib.Omega.{arith}
 use lib.ListN.{length}
-use Rattle.listing.specs.Text.{rows_kept, listing_text}
+use Rattle.listing.specs.Text.{rows_kept}
 use Rattle.gate_listing.specs.Listed.{rows_on}
-use Rattle.gate_listing.proofs.Rows.{Clear, list_known, write_refused, write_done, rows_written}
-use borrow.Author.Rules.{rules}
+use Rattle.gate_listing.proofs.Rows.{list_known, write_refused, write_done, rows_written}
 use Rattle.gate_listing.proofs.write.Goals as goal
 
 pub returns-then-refusal-ne0 : goal.returns-then-refusal-ne0

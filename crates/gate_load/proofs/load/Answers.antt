@@ -1,6 +1,5 @@
 -- `gate_load::load` meets its contract. Assumes nothing.
 use Rattle.claim.specs.Step.{step_entry}
-use borrow.Author.Rules.{rules}
 use Rattle.gate_load.proofs.load.Goals as goal
 
 pub returns : goal.returns

@@ -5,7 +5,6 @@ use Prim.Native.Nat.{ℕ}
 use mathlib.Core.List.{List}
 use mathlib.Core.Path.{ap, ◌∙◌}
 use Rattle.register.specs.Layout.{put_ratios}
-use borrow.Author.Rules.{rules}
 use Rattle.gate_open.proofs.open.Goals as goal
 
 pub returns-then-refusal-ne0 : goal.returns-then-refusal-ne0

@@ -1,6 +1,5 @@
 -- `gate_open::refusal_of_opening` meets its contract. Assumes nothing.
 use Rattle.claim.specs.Opening.{open_refusal}
-use borrow.Author.Rules.{rules}
 use Rattle.gate_open.proofs.refusal_of_opening.Goals as goal
 
 pub returns-then-ok : goal.returns-then-ok

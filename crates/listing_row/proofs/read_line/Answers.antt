@@ -1,6 +1,5 @@
 -- `listing_row::read_line` meets its contract. Assumes nothing.
 use Rattle.listing.specs.Text.{row_in, row_formed, row_good}
-use borrow.Author.Rules.{rules}
 use Rattle.listing_row.proofs.read_line.Goals as goal
 
 pub returns : goal.returns

@@ -1,6 +1,5 @@
 -- `listing_text::class_at` meets its contract. Assumes nothing.
 use Rattle.listing.proofs.Lined.{class_said}
-use borrow.Author.Rules.{rules}
 use Rattle.listing_text.proofs.class_at.Goals as goal
 
 pub returns : goal.returns

@@ -1,6 +1,5 @@
 -- `listing_text::code_at` meets its contract. Assumes nothing.
 use Rattle.listing.proofs.Lined.{code_said}
-use borrow.Author.Rules.{rules}
 use Rattle.listing_text.proofs.code_at.Goals as goal
 
 pub returns : goal.returns

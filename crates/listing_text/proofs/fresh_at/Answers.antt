@@ -1,12 +1,11 @@
 -- `listing_text::fresh_at` meets its contract. Assumes nothing.
-use Prim.Native.Nat.{◌+◌, ◌*◌, ◌≤◌}
-use mathlib.Core.Path.{◌≡◌, refl, sym, ◌∙◌}
+use Prim.Native.Nat.{◌+◌}
+use mathlib.Core.Path.{sym, ◌∙◌}
 use native.Mathlib.Omega.{arith}
-use lib.ListN.{length, drop}
+use lib.ListN.{drop}
 use Rattle.columns.specs.Column.{part}
 use Rattle.listing.specs.Text.{row_in, fresh, rows_from, row_bytes}
 use Rattle.listing_text.proofs.Turns.{fresh_step, fresh_fail, fresh_end}
-use borrow.Author.Rules.{rules}
 use Rattle.listing_text.proofs.fresh_at.Goals as goal
 
 pub returns-then-code-code_at : goal.returns-then-code-code_at

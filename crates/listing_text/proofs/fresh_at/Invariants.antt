@@ -1,12 +1,9 @@
 -- `listing_text::fresh_at` meets its contract. Assumes nothing.
 use Prim.Native.Nat.{◌+◌, ◌*◌, ◌≤◌}
-use mathlib.Core.Path.{◌≡◌, refl, sym, ◌∙◌}
-use native.Mathlib.Omega.{arith}
+use mathlib.Core.Path.{◌≡◌}
 use lib.ListN.{length, drop}
 use Rattle.columns.specs.Column.{part}
 use Rattle.listing.specs.Text.{row_in, fresh, rows_from, row_bytes}
-use Rattle.listing_text.proofs.Turns.{fresh_step, fresh_fail, fresh_end}
-use borrow.Author.Rules.{rules}
 use Rattle.listing_text.proofs.fresh_at.Given as goal
 
 abbrev pub invariant-loop-more : goal.invariant-loop-more

@@ -1,13 +1,8 @@
 -- `listing_text::is_listing` meets its contract. Assumes nothing.
 use Prim.Native.Nat.{◌+◌, ◌*◌, ◌/◌}
-use mathlib.Core.Path.{◌≡◌, refl, ◌∙◌}
-use mathlib.Core.Bool.{true, false}
-use native.Mathlib.Nat.{div-add-mod}
-use native.Mathlib.Omega.{arith}
+use mathlib.Core.Path.{◌≡◌}
 use lib.ListN.{length, drop}
 use Rattle.listing.specs.Text.{rows_good, row_bytes}
-use Rattle.listing_text.proofs.Turns.{good-step, good_fail, good_repeat, good_end, listing_is, listing_long, listing_odd}
-use borrow.Author.Rules.{rules}
 use Rattle.listing_text.proofs.is_listing.Given as goal
 
 abbrev pub invariant-loop-left : goal.invariant-loop-left

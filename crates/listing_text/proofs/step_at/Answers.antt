@@ -1,7 +1,6 @@
 -- `listing_text::step_at` meets its contract. Assumes nothing.
 use native.Mathlib.Omega.{arith}
 use Rattle.listing_text.proofs.Turns.{step_end, step_broken, step-next}
-use borrow.Author.Rules.{rules}
 use Rattle.listing_text.proofs.step_at.Goals as goal
 
 pub returns-then-text-lt-ROW : goal.returns-then-text-lt-ROW

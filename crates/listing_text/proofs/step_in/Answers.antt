@@ -1,5 +1,4 @@
 -- `listing_text::step_in` meets its contract. Assumes nothing.
-use borrow.Author.Rules.{rules}
 use borrow.Author.Tests.{ne_eqb, eq-eqb}
 use Rattle.listing.specs.Text.{step_in}
 use Rattle.listing_text.proofs.step_in.Goals as goal

@@ -1,6 +1,5 @@
 -- `orders_booking::close_orders` meets its contract. Assumes nothing.
 use Rattle.orders.specs.Calls.{closed_book}
-use borrow.Author.Rules.{rules}
 use Rattle.orders_booking.proofs.close_orders.Goals as goal
 
 pub returns : goal.returns

@@ -1,8 +1,6 @@
 -- `orders_booking::counted` meets its contract. Assumes nothing.
-use native.Mathlib.Omega.{arith}
 use Rattle.rules.specs.Sums.{when}
-use Rattle.orders_booking.proofs.Amounts.{amount_most, price_above, quantity_above, in_range_lem}
-use borrow.Author.Rules.{rules}
+use Rattle.orders_booking.proofs.Amounts.{price_above, quantity_above, in_range_lem}
 use Rattle.orders_booking.proofs.counted.Goals as goal
 
 pub returns-then-price-gt-TOP_PRICE : goal.returns-then-price-gt-TOP_PRICE

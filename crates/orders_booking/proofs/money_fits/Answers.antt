@@ -6,7 +6,6 @@ use borrow.Author.Tests.{lt-leb}
 use Rattle.rules.specs.Limits.{top_money}
 use Rattle.orders.specs.Booking.{money_fits}
 use Rattle.orders_booking.proofs.Amounts.{rest_same}
-use borrow.Author.Rules.{rules}
 use Rattle.orders_booking.proofs.money_fits.Goals as goal
 
 pub returns-then-open-gt-TOP_MONEY : goal.returns-then-open-gt-TOP_MONEY

@@ -1,10 +1,7 @@
 -- `orders_cancel::booked_cancel` meets its contract. Assumes nothing.
 use mathlib.Core.Path.{◌∙◌}
-use Prim.Native.Nat.{◌*◌}
-use native.Mathlib.Omega.{arith}
 use Rattle.orders_booking.proofs.Amounts.{counted_buy}
 use Rattle.orders_cancel.proofs.Parts.{cancel_short, cancel_booked_lem}
-use borrow.Author.Rules.{rules}
 use Rattle.orders_cancel.proofs.booked_cancel.Goals as goal
 
 pub returns-then-open-taken : goal.returns-then-open-taken

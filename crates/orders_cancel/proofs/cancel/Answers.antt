@@ -3,7 +3,6 @@ use mathlib.Core.Path.{sym, ◌∙◌}
 use Rattle.orders.specs.Calls.{cancel_listed, cancel_booked, cancel_refusal, cancel_book, cancel_places}
 use Rattle.orders_booking.proofs.Named.{by_list, by_money, taken}
 use Rattle.orders_cancel.proofs.Needed.{cancel_needs, cancel-done}
-use borrow.Author.Rules.{rules}
 use Rattle.orders_cancel.proofs.cancel.Goals as goal
 
 pub returns-then-listed-ne0 : goal.returns-then-listed-ne0

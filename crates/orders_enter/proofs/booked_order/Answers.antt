@@ -2,7 +2,6 @@
 use native.Mathlib.Omega.{arith}
 use Rattle.orders.specs.Booking.{booked_order}
 use Rattle.orders_booking.proofs.Amounts.{counted_most, counted_buy}
-use borrow.Author.Rules.{rules}
 use Rattle.orders_enter.proofs.booked_order.Goals as goal
 
 pub overflow_add-after : goal.overflow_add-after

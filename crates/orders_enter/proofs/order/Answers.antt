@@ -4,7 +4,6 @@ use native.Mathlib.Omega.{arith}
 use Rattle.rules.specs.Orders.{shanghai}
 use Rattle.orders_enter.proofs.Needed.{order_needs, order-number}
 use Rattle.orders_enter.proofs.Done.{by_list, by_money, taken}
-use borrow.Author.Rules.{rules}
 use Rattle.orders_enter.proofs.order.Goals as goal
 
 pub returns-then-refusal-ne0 : goal.returns-then-refusal-ne0

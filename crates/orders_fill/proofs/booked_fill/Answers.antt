@@ -1,10 +1,8 @@
 -- `orders_fill::booked_fill` meets its contract. Assumes nothing.
 use mathlib.Core.Path.{◌∙◌}
-use Prim.Native.Nat.{◌*◌}
 use native.Mathlib.Omega.{arith}
 use Rattle.orders_booking.proofs.Amounts.{counted_most, counted_buy, counted_other}
 use Rattle.orders_fill.proofs.Parts.{fill_short, fill_booked_lem}
-use borrow.Author.Rules.{rules}
 use Rattle.orders_fill.proofs.booked_fill.Goals as goal
 
 pub returns-then-open-taken : goal.returns-then-open-taken

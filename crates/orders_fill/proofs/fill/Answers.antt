@@ -1,12 +1,10 @@
 -- `orders_fill::fill` meets its contract. Assumes nothing.
 use Prim.Native.Nat.{◌-◌}
 use mathlib.Core.Path.{sym, ap, ◌∙◌}
-use native.Mathlib.Omega.{arith}
 use Rattle.book.specs.Layout.{place_at, put_open}
 use Rattle.orders.specs.Calls.{fill_listed, fill_booked, fill_refusal, fill_book, fill_places}
 use Rattle.orders_booking.proofs.Named.{by_list, by_money, taken}
 use Rattle.orders_fill.proofs.Needed.{fill_needs, fill_open, fill_done}
-use borrow.Author.Rules.{rules}
 use Rattle.orders_fill.proofs.fill.Goals as goal
 
 pub returns-then-listed-ne0 : goal.returns-then-listed-ne0

@@ -1,10 +1,6 @@
 -- `pairs::lacks` meets its contract. Assumes nothing.
-use Prim.Native.Nat.{◌+◌, ◌≤◌, ◌-◌}
-use mathlib.Core.Path.{◌≡◌, refl}
-use mathlib.Core.Bool.{not}
-use lib.Dec.{eqb}
-use lib.ListN.{get_or}
-use Rattle.words.specs.Each.{all_below, below_none, below_turn, below_end}
+use mathlib.Core.Path.{refl}
+use Rattle.words.specs.Each.{below_none, below_turn}
 use borrow.Author.Rules.{rules}
 use Rattle.pairs.proofs.lacks.Goals as goal
 

@@ -1,11 +1,10 @@
 -- `pairs::lacks` meets its contract. Assumes nothing.
 use Prim.Native.Nat.{◌+◌, ◌≤◌, ◌-◌}
-use mathlib.Core.Path.{◌≡◌, refl}
+use mathlib.Core.Path.{◌≡◌}
 use mathlib.Core.Bool.{not}
 use lib.Dec.{eqb}
 use lib.ListN.{get_or}
-use Rattle.words.specs.Each.{all_below, below_none, below_turn, below_end}
-use borrow.Author.Rules.{rules}
+use Rattle.words.specs.Each.{all_below}
 use Rattle.pairs.proofs.lacks.Given as goal
 
 abbrev pub invariant-loop-j : goal.invariant-loop-j

@@ -1,7 +1,6 @@
 -- `pairs::place_of` meets its contract. Assumes nothing.
 use native.Mathlib.Omega.{arith}
 use Rattle.pairs.specs.Laws.{lacks_none}
-use borrow.Author.Rules.{rules}
 use Rattle.pairs.proofs.place_of.Goals as goal
 
 pub walk-requires : goal.walk-requires

@@ -1,14 +1,12 @@
 -- `pairs::remove_word` meets its contract: after j turns j of the later words have come a word lower. Assumes nothing.
-use Prim.Native.Nat.{◌+◌, ◌≤◌, ◌-◌}
-use mathlib.Core.Path.{◌≡◌, refl, sym, ◌∙◌}
+use Prim.Native.Nat.{◌-◌}
+use mathlib.Core.Path.{◌≡◌, sym, ◌∙◌}
 use native.Mathlib.Omega.{arith}
 use borrow.Author.Tests.{lt-leb, lt-ltb, le-ltb}
-use lib.ListN.{length, drop, length-set}
-use lib.Seq.{paste, paste-zero}
+use lib.ListN.{length, length-set}
 use Rattle.pairs.specs.Pairs.{removed_word}
 use Rattle.pairs.specs.Laws.{removed_fits, closed-paste}
 use Rattle.pairs.proofs.Turns.{move_turn}
-use borrow.Author.Rules.{rules}
 use Rattle.pairs.proofs.remove_word.Goals as goal
 
 pub returns-then-n-k : goal.returns-then-n-k

@@ -1,14 +1,8 @@
 -- `pairs::remove_word` meets its contract: after j turns j of the later words have come a word lower. Assumes nothing.
 use Prim.Native.Nat.{◌+◌, ◌≤◌, ◌-◌}
-use mathlib.Core.Path.{◌≡◌, refl, sym, ◌∙◌}
-use native.Mathlib.Omega.{arith}
-use borrow.Author.Tests.{lt-leb, lt-ltb, le-ltb}
-use lib.ListN.{length, drop, length-set}
-use lib.Seq.{paste, paste-zero}
-use Rattle.pairs.specs.Pairs.{removed_word}
-use Rattle.pairs.specs.Laws.{removed_fits, closed-paste}
-use Rattle.pairs.proofs.Turns.{move_turn}
-use borrow.Author.Rules.{rules}
+use mathlib.Core.Path.{◌≡◌}
+use lib.ListN.{length, drop}
+use lib.Seq.{paste}
 use Rattle.pairs.proofs.remove_word.Given as goal
 
 abbrev pub invariant-loop-j : goal.invariant-loop-j

@@ -1,11 +1,7 @@
 -- `pairs::skip` meets its contract. Assumes nothing.
-use Prim.Native.Nat.{◌≤◌, ◌-◌}
 use mathlib.Core.Path.{sym, ◌∙◌}
 use native.Mathlib.Omega.{arith}
-use borrow.Author.Tests.{not-false}
-use Rattle.pairs.specs.Pairs.{Lacks}
 use Rattle.pairs.specs.Laws.{lacks_none, lacks_block}
-use borrow.Author.Rules.{rules}
 use Rattle.pairs.proofs.skip.Goals as goal
 
 pub loop-k-init : goal.loop-k-init

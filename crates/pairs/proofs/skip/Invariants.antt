@@ -1,11 +1,6 @@
 -- `pairs::skip` meets its contract. Assumes nothing.
 use Prim.Native.Nat.{◌≤◌, ◌-◌}
-use mathlib.Core.Path.{sym, ◌∙◌}
-use native.Mathlib.Omega.{arith}
-use borrow.Author.Tests.{not-false}
 use Rattle.pairs.specs.Pairs.{Lacks}
-use Rattle.pairs.specs.Laws.{lacks_none, lacks_block}
-use borrow.Author.Rules.{rules}
 use Rattle.pairs.proofs.skip.Given as goal
 
 abbrev pub invariant-loop-k : goal.invariant-loop-k

@@ -1,10 +1,7 @@
 -- `pairs::walk` meets its contract. Assumes nothing.
-use Prim.Native.Nat.{◌≤◌, ◌-◌}
 use mathlib.Core.Path.{sym}
 use native.Mathlib.Omega.{arith}
-use Rattle.pairs.specs.Pairs.{Lacks}
 use Rattle.pairs.specs.Laws.{lacks_more, lacks_all, lacks_here}
-use borrow.Author.Rules.{rules}
 use Rattle.pairs.proofs.walk.Goals as goal
 
 pub returns-then-ws-k : goal.returns-then-ws-k

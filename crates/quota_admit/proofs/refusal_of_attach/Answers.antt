@@ -1,6 +1,5 @@
 -- `quota_admit::refusal_of_attach` meets its contract. Assumes nothing.
 use Rattle.quota.specs.Calls.{attach_refusal}
-use borrow.Author.Rules.{rules}
 use Rattle.quota_admit.proofs.refusal_of_attach.Goals as goal
 
 pub returns : goal.returns

@@ -1,6 +1,5 @@
 -- `quota_admit::refusal_of_detach` meets its contract. Assumes nothing.
 use Rattle.quota.specs.Calls.{detach_refusal}
-use borrow.Author.Rules.{rules}
 use Rattle.quota_admit.proofs.refusal_of_detach.Goals as goal
 
 pub returns : goal.returns

@@ -1,6 +1,5 @@
 -- `quota_admit::refusal_of_enrol` meets its contract. Assumes nothing.
 use Rattle.quota.specs.Calls.{enrol_refusal}
-use borrow.Author.Rules.{rules}
 use Rattle.quota_admit.proofs.refusal_of_enrol.Goals as goal
 
 pub returns : goal.returns

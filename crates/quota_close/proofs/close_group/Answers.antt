@@ -1,9 +1,8 @@
 -- `quota_close::close_group` meets its contract. Assumes nothing.
 use mathlib.Core.Path.{ap, ◌∙◌}
-use Rattle.register.specs.Layout.{group_at, put_group}
+use Rattle.register.specs.Layout.{put_group}
 use Rattle.quota.specs.Groups.{closed_group}
 use Rattle.quota.specs.Calls.{closed_at}
-use borrow.Author.Rules.{rules}
 use Rattle.quota_close.proofs.close_group.Goals as goal
 
 pub returns : goal.returns

@@ -1,10 +1,7 @@
 -- `quota_close::close_groups` meets its contract. Assumes nothing.
-use Prim.Native.Nat.{◌≤◌, ◌-◌}
-use mathlib.Core.Path.{◌≡◌, refl, ap, sym, ◌∙◌}
+use mathlib.Core.Path.{◌∙◌}
 use native.Mathlib.Omega.{arith}
-use lib.ListN.{length}
-use Rattle.quota.specs.Calls.{closed_below}
-use Rattle.quota_close.proofs.Closing.{close-none, close_turn, close_end, length-closed}
+use Rattle.quota_close.proofs.Closing.{close-none, close_turn}
 use borrow.Author.Rules.{rules}
 use Rattle.quota_close.proofs.close_groups.Goals as goal
 

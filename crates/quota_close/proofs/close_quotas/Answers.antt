@@ -1,6 +1,5 @@
 -- `quota_close::close_quotas` meets its contract. Assumes nothing.
 use Rattle.quota_close.proofs.Closing.{close_unsound, close_sound}
-use borrow.Author.Rules.{rules}
 use Rattle.std.proofs.Common.{ap}
 use mathlib.Core.Bool.{not}
 use Rattle.quota_close.proofs.close_quotas.Goals as goal

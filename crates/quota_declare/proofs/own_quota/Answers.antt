@@ -1,12 +1,9 @@
 -- `quota_declare::own_quota` meets its contract. Assumes nothing.
-use mathlib.Core.Path.{refl, ap, ◌∙◌}
-use mathlib.Core.List.{List}
-use Prim.Native.Nat.{ℕ}
+use mathlib.Core.Path.{ap, ◌∙◌}
 use Rattle.register.specs.Layout.{group_at, put_group}
 use Rattle.quota.specs.Groups.{own_group}
 use Rattle.quota.specs.Calls.{own_quota_refusal, own_quota_after}
 use Rattle.quota.proofs.Shape.{refused-step, accepted-step}
-use borrow.Author.Rules.{rules}
 use Rattle.quota_declare.proofs.own_quota.Goals as goal
 
 pub returns-then-refusal-ne0 : goal.returns-then-refusal-ne0

@@ -1,11 +1,7 @@
 -- `quota_enrol::attach` meets its contract. Assumes nothing.
-use mathlib.Core.Path.{refl, ap, ◌∙◌}
-use mathlib.Core.List.{List}
-use Prim.Native.Nat.{ℕ}
 use Rattle.register.specs.Layout.{add_unit}
 use Rattle.quota.specs.Calls.{attach_refusal, attach_after}
 use Rattle.quota.proofs.Shape.{refused-step, accepted-step}
-use borrow.Author.Rules.{rules}
 use Rattle.quota_enrol.proofs.attach.Goals as goal
 
 pub returns-then-refusal-ne0 : goal.returns-then-refusal-ne0

@@ -1,13 +1,10 @@
 -- `quota_enrol::enrol` meets its contract. Assumes nothing.
-use mathlib.Core.Path.{refl, ap, ◌∙◌}
-use mathlib.Core.List.{List}
-use Prim.Native.Nat.{ℕ}
+use mathlib.Core.Path.{ap, ◌∙◌}
 use Rattle.rules.specs.Calls.{accepted}
 use Rattle.register.specs.Layout.{add_group, group_count}
 use Rattle.quota.specs.Groups.{fresh_group}
 use Rattle.quota.specs.Calls.{enrol_refusal, enrol_after, enrol_answer}
 use Rattle.quota.proofs.Shape.{refused-step, accepted-step}
-use borrow.Author.Rules.{rules}
 use Rattle.quota_enrol.proofs.enrol.Goals as goal
 
 pub returns-then-refusal-ne0 : goal.returns-then-refusal-ne0

@@ -4,7 +4,6 @@ use Rattle.rules.specs.Loads.{loaded}
 use Rattle.register.specs.Layout.{put_ratios}
 use Rattle.quota.specs.Calls.{load_refusal, load_after}
 use Rattle.quota.proofs.Shape.{refused-step, accepted-step}
-use borrow.Author.Rules.{rules}
 use Rattle.quota_load.proofs.load.Goals as goal
 
 pub returns-then-refusal-ne0 : goal.returns-then-refusal-ne0

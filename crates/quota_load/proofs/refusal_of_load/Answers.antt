@@ -1,6 +1,5 @@
 -- `quota_load::refusal_of_load` meets its contract. Assumes nothing.
 use Rattle.quota.specs.Calls.{load_refusal}
-use borrow.Author.Rules.{rules}
 use Rattle.quota_load.proofs.refusal_of_load.Goals as goal
 
 pub returns : goal.returns

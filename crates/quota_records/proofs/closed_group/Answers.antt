@@ -1,6 +1,5 @@
 -- `quota_records::closed_group` meets its contract. Assumes nothing.
 use Rattle.quota.specs.Groups.{closed_group}
-use borrow.Author.Rules.{rules}
 use Rattle.quota_records.proofs.closed_group.Goals as goal
 
 pub returns : goal.returns

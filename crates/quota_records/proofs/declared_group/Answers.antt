@@ -1,7 +1,6 @@
 -- `quota_records::declared_group` meets its contract. Assumes nothing.
 use borrow.Author.Tests.{eq-eqb, ne_eqb}
 use Rattle.quota.specs.Groups.{declared_group}
-use borrow.Author.Rules.{rules}
 use Rattle.quota_records.proofs.declared_group.Goals as goal
 
 pub returns-then-base-eq0 : goal.returns-then-base-eq0

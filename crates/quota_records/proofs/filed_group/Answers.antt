@@ -1,6 +1,5 @@
 -- `quota_records::filed_group` meets its contract. Assumes nothing.
 use Rattle.quota.specs.Groups.{filed_group}
-use borrow.Author.Rules.{rules}
 use Rattle.quota_records.proofs.filed_group.Goals as goal
 
 pub returns : goal.returns

@@ -1,6 +1,5 @@
 -- `quota_records::own_group` meets its contract. Assumes nothing.
 use Rattle.quota.specs.Groups.{own_group}
-use borrow.Author.Rules.{rules}
 use Rattle.quota_records.proofs.own_group.Goals as goal
 
 pub returns : goal.returns

@@ -1,6 +1,5 @@
 -- `quota_records::raised_group` meets its contract. Assumes nothing.
 use Rattle.quota.specs.Groups.{raised_group}
-use borrow.Author.Rules.{rules}
 use Rattle.quota_records.proofs.raised_group.Goals as goal
 
 pub returns : goal.returns

@@ -1,6 +1,5 @@
 -- `quota_vet::refusal_of_own_quota` meets its contract. Assumes nothing.
 use Rattle.quota.specs.Calls.{own_quota_refusal}
-use borrow.Author.Rules.{rules}
 use Rattle.quota_vet.proofs.refusal_of_own_quota.Goals as goal
 
 pub returns : goal.returns

@@ -1,6 +1,5 @@
 -- `quota_vet::refusal_of_withdraw` meets its contract. Assumes nothing.
 use Rattle.quota.specs.Calls.{withdraw_refusal}
-use borrow.Author.Rules.{rules}
 use Rattle.quota_vet.proofs.refusal_of_withdraw.Goals as goal
 
 pub returns : goal.returns

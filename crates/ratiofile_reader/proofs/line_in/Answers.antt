@@ -1,6 +1,5 @@
 -- `ratiofile_reader::line_in` meets its contract. Assumes nothing.
 use Rattle.ratiofile.specs.File.{line_in}
-use borrow.Author.Rules.{rules}
 use Rattle.ratiofile_reader.proofs.line_in.Goals as goal
 
 pub returns : goal.returns

@@ -1,6 +1,5 @@
 -- `ratiofile_reader::read_file` meets its contract. Assumes nothing.
 use Rattle.ratiofile_reader.proofs.Answers.{file_long, file-bad, file-good}
-use borrow.Author.Rules.{rules}
 use Rattle.std.proofs.Common.{ap}
 use mathlib.Core.Bool.{not}
 use Rattle.ratiofile_reader.proofs.read_file.Goals as goal

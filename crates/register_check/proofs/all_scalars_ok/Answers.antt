@@ -1,8 +1,5 @@
 -- `register_check::all_scalars_ok` meets its contract. Assumes nothing.
-use Prim.Native.Nat.{◌≤◌, ◌-◌}
-use mathlib.Core.Path.{◌≡◌}
-use Rattle.words.specs.Each.{all_below, below_none, below_turn, below_end}
-use Rattle.register.specs.Columns.{scalars_ok}
+use Rattle.words.specs.Each.{below_none, below_turn}
 use borrow.Author.Rules.{rules}
 use Rattle.register_check.proofs.all_scalars_ok.Goals as goal
 

@@ -1,9 +1,8 @@
 -- `register_check::all_scalars_ok` meets its contract. Assumes nothing.
 use Prim.Native.Nat.{◌≤◌, ◌-◌}
 use mathlib.Core.Path.{◌≡◌}
-use Rattle.words.specs.Each.{all_below, below_none, below_turn, below_end}
+use Rattle.words.specs.Each.{all_below}
 use Rattle.register.specs.Columns.{scalars_ok}
-use borrow.Author.Rules.{rules}
 use Rattle.register_check.proofs.all_scalars_ok.Given as goal
 
 abbrev pub invariant-loop-i : goal.invariant-loop-i

@@ -2,7 +2,6 @@
 use borrow.Author.Tests.{eq-eqb, ne_eqb, le-leb, lt-leb}
 use Rattle.register.specs.Check.{register_ok}
 use Rattle.register.specs.Columns.{columns}
-use borrow.Author.Rules.{rules}
 use Rattle.register_check.proofs.register_ok.Goals as goal
 
 pub returns-then-register-ne-REGISTER : goal.returns-then-register-ne-REGISTER

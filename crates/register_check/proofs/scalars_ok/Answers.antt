@@ -1,12 +1,8 @@
 -- `register_check::scalars_ok` meets its contract. Assumes nothing.
-use Prim.Native.Nat.{◌+◌, ◌*◌, ◌≤◌, ◌-◌}
-use mathlib.Core.Path.{◌≡◌, refl}
-use lib.Dec.{leb}
-use lib.ListN.{get_or}
-use Rattle.words.specs.Each.{all_below, below_none, below_turn, below_end}
-use Rattle.register.specs.Columns.{most_scalars, scalars_ok}
+use mathlib.Core.Path.{refl}
+use Rattle.words.specs.Each.{below_none, below_turn, below_end}
+use Rattle.register.specs.Columns.{scalars_ok}
 use borrow.Author.Rules.{rules}
-use Rattle.register.specs.Layout.{first_scalar}
 use Rattle.register_check.proofs.scalars_ok.Goals as goal
 
 pub loop-k-init : goal.loop-k-init

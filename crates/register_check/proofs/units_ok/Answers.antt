@@ -1,8 +1,5 @@
 -- `register_check::units_ok` meets its contract. Assumes nothing.
-use Prim.Native.Nat.{◌≤◌, ◌-◌}
-use mathlib.Core.Path.{◌≡◌, refl}
-use Rattle.words.specs.Each.{all_below, below_none, below_turn, below_end}
-use Rattle.register.specs.Check.{unit_ok}
+use Rattle.words.specs.Each.{below_none, below_turn}
 use borrow.Author.Rules.{rules}
 use Rattle.register_check.proofs.units_ok.Goals as goal
 

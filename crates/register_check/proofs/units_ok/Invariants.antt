@@ -1,9 +1,8 @@
 -- `register_check::units_ok` meets its contract. Assumes nothing.
 use Prim.Native.Nat.{◌≤◌, ◌-◌}
-use mathlib.Core.Path.{◌≡◌, refl}
-use Rattle.words.specs.Each.{all_below, below_none, below_turn, below_end}
+use mathlib.Core.Path.{◌≡◌}
+use Rattle.words.specs.Each.{all_below}
 use Rattle.register.specs.Check.{unit_ok}
-use borrow.Author.Rules.{rules}
 use Rattle.register_check.proofs.units_ok.Given as goal
 
 abbrev pub invariant-loop-k : goal.invariant-loop-k

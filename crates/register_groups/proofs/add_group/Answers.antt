@@ -1,11 +1,6 @@
 -- `register_groups::add_group` meets its contract. Assumes nothing.
-use native.Mathlib.Omega.{arith}
-use mathlib.Core.Path.{ap, ◌∙◌}
 use borrow.Author.Tests.{eq-eqb, ne_eqb, lt-ltb, le-ltb}
-use lib.ListN.{length}
-use Rattle.register.specs.Layout.{add_group, group_count, words_of}
-use Rattle.register.specs.Records.{put-length, length-words}
-use borrow.Author.Rules.{rules}
+use Rattle.register.specs.Layout.{add_group}
 use Rattle.register_groups.proofs.add_group.Goals as goal
 
 pub returns-then-register-ne-REGISTER : goal.returns-then-register-ne-REGISTER

@@ -1,7 +1,6 @@
 -- `register_groups::figures_of` meets its contract. Assumes nothing.
 use mathlib.Core.Path.{refl}
 use Rattle.register.specs.Layout.{figures_of}
-use borrow.Author.Rules.{rules}
 use Rattle.register_groups.proofs.figures_of.Goals as goal
 
 pub returns : goal.returns

@@ -1,12 +1,9 @@
 -- `register_groups::gathered` meets its contract. Assumes nothing.
-use Prim.Native.Nat.{◌≤◌, ◌-◌}
-use mathlib.Core.Path.{◌≡◌, refl, ap, ◌∙◌}
+use mathlib.Core.Path.{refl, ap, ◌∙◌}
 use native.Mathlib.Omega.{arith}
-use lib.ListN.{length, get_or, length-set}
+use lib.ListN.{get_or, length-set}
 use Rattle.register.specs.Records.{place_range}
-use Rattle.register.proofs.Steps.{Gathered, gathered_none, gathered_turn, gathered_all}
-use borrow.Author.Rules.{rules}
-use Rattle.register.specs.Layout.{record_words}
+use Rattle.register.proofs.Steps.{gathered_none, gathered_turn, gathered_all}
 use Rattle.register_groups.proofs.gathered.Goals as goal
 
 pub loop-k-init : goal.loop-k-init

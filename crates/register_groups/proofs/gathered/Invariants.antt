@@ -1,11 +1,8 @@
 -- `register_groups::gathered` meets its contract. Assumes nothing.
 use Prim.Native.Nat.{◌≤◌, ◌-◌}
-use mathlib.Core.Path.{◌≡◌, refl, ap, ◌∙◌}
-use native.Mathlib.Omega.{arith}
-use lib.ListN.{length, get_or, length-set}
-use Rattle.register.specs.Records.{place_range}
-use Rattle.register.proofs.Steps.{Gathered, gathered_none, gathered_turn, gathered_all}
-use borrow.Author.Rules.{rules}
+use mathlib.Core.Path.{◌≡◌}
+use lib.ListN.{length}
+use Rattle.register.proofs.Steps.{Gathered}
 use Rattle.register.specs.Layout.{record_words}
 use Rattle.register_groups.proofs.gathered.Given as goal
 

@@ -1,9 +1,6 @@
-use mathlib.Core.Path.{ap, ◌∙◌}
+use mathlib.Core.Path.{◌∙◌}
 use borrow.Author.Tests.{lt-ltb, le-ltb, ne_eqb}
-use Rattle.register.specs.Layout.{record_at, group_of}
-use Rattle.register.specs.Records.{length_record}
-use native.Mathlib.Omega.{arith}
-use borrow.Author.Rules.{rules}
+use Rattle.register.specs.Layout.{record_at}
 use Rattle.register_groups.proofs.group_at.Goals as goal
 
 pub returns-then-i-ge64 : goal.returns-then-i-ge64

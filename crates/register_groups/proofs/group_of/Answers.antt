@@ -1,6 +1,5 @@
 -- `register_groups::group_of` meets its contract. Assumes nothing.
 use Rattle.register.specs.Layout.{group_of}
-use borrow.Author.Rules.{rules}
 use Rattle.register_groups.proofs.group_of.Goals as goal
 
 pub returns : goal.returns

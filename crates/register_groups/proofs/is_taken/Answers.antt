@@ -1,6 +1,5 @@
 -- `register_groups::is_taken` meets its contract. Assumes nothing.
 use Rattle.register.specs.Layout.{is_taken}
-use borrow.Author.Rules.{rules}
 use Rattle.register_groups.proofs.is_taken.Goals as goal
 
 pub returns : goal.returns

@@ -1,7 +1,6 @@
 -- `register_groups::no_group` meets its contract. Assumes nothing.
 use mathlib.Core.Path.{refl, ◌∙◌}
 use Rattle.register.specs.Layout.{group_of, figures_of}
-use borrow.Author.Rules.{rules}
 use Rattle.register_groups.proofs.no_group.Goals as goal
 
 pub returns : goal.returns

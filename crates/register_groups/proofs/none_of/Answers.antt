@@ -1,9 +1,7 @@
 -- `register_groups::none_of` meets its contract. Assumes nothing.
-use Prim.Native.Nat.{◌≤◌, ◌-◌}
-use mathlib.Core.Path.{◌≡◌, refl, ap}
+use mathlib.Core.Path.{ap}
 use mathlib.Core.Bool.{not}
-use Rattle.words.specs.Each.{all_below, below_none, below_turn, below_end}
-use Rattle.register.specs.Layout.{is_group}
+use Rattle.words.specs.Each.{below_none, below_turn}
 use borrow.Author.Rules.{rules}
 use Rattle.register_groups.proofs.none_of.Goals as goal
 

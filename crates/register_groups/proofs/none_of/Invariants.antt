@@ -1,10 +1,9 @@
 -- `register_groups::none_of` meets its contract. Assumes nothing.
 use Prim.Native.Nat.{◌≤◌, ◌-◌}
-use mathlib.Core.Path.{◌≡◌, refl, ap}
+use mathlib.Core.Path.{◌≡◌}
 use mathlib.Core.Bool.{not}
-use Rattle.words.specs.Each.{all_below, below_none, below_turn, below_end}
+use Rattle.words.specs.Each.{all_below}
 use Rattle.register.specs.Layout.{is_group}
-use borrow.Author.Rules.{rules}
 use Rattle.register_groups.proofs.none_of.Given as goal
 
 abbrev pub invariant-loop-i : goal.invariant-loop-i

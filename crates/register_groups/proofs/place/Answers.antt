@@ -1,7 +1,6 @@
 -- `register_groups::place` meets its contract. Assumes nothing.
 use borrow.Author.Tests.{lt-ltb, le-ltb}
 use Rattle.register.specs.Layout.{place}
-use borrow.Author.Rules.{rules}
 use Rattle.register_groups.proofs.place.Goals as goal
 
 pub returns-then-k-lt7 : goal.returns-then-k-lt7

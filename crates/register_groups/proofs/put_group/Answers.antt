@@ -1,8 +1,6 @@
-use mathlib.Core.Path.{◌∙◌}
 use borrow.Author.Tests.{lt-ltb, le-ltb, ne_eqb}
 use Rattle.register.specs.Layout.{put_record}
 use Rattle.register.proofs.Steps.{put_step}
-use borrow.Author.Rules.{rules}
 use Rattle.register_groups.proofs.put_group.Goals as goal
 
 pub returns-then-i-ge64 : goal.returns-then-i-ge64

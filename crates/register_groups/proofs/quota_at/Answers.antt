@@ -2,7 +2,6 @@
 use borrow.Author.Tests.{lt-ltb, le-ltb, ne_eqb}
 use Rattle.register.specs.Layout.{record_at}
 use Rattle.register.proofs.Steps.{quota_step}
-use borrow.Author.Rules.{rules}
 use Rattle.register_groups.proofs.quota_at.Goals as goal
 
 pub returns-then-i-ge64 : goal.returns-then-i-ge64

@@ -1,12 +1,8 @@
 -- `register_groups::scatter` meets its contract. Assumes nothing.
-use Prim.Native.Nat.{◌≤◌, ◌-◌}
-use mathlib.Core.Path.{◌≡◌}
 use native.Mathlib.Omega.{arith}
-use lib.ListN.{length, length-set}
-use Rattle.register.specs.Layout.{put_words, record_words, register_length}
+use lib.ListN.{length-set}
 use Rattle.register.specs.Records.{place_range}
 use Rattle.register.proofs.Steps.{puts_none, puts_turn}
-use borrow.Author.Rules.{rules}
 use Rattle.register_groups.proofs.scatter.Goals as goal
 
 pub loop-k-init : goal.loop-k-init

@@ -1,6 +1,5 @@
 -- `register_groups::words_of` meets its contract. Assumes nothing.
 use Rattle.register.proofs.Steps.{words_step}
-use borrow.Author.Rules.{rules}
 use Rattle.register_groups.proofs.words_of.Goals as goal
 
 pub returns : goal.returns

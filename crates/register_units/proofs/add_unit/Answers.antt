@@ -1,9 +1,6 @@
 -- `register_units::add_unit` meets its contract. Assumes nothing.
-use native.Mathlib.Omega.{arith}
 use borrow.Author.Tests.{eq-eqb, ne_eqb, lt-ltb, le-ltb}
-use lib.ListN.{length-set}
 use Rattle.register.specs.Layout.{add_unit}
-use borrow.Author.Rules.{rules}
 use Rattle.register_units.proofs.add_unit.Goals as goal
 
 pub returns-then-register-ne-REGISTER : goal.returns-then-register-ne-REGISTER

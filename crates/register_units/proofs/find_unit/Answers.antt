@@ -5,7 +5,6 @@ use native.Mathlib.Omega.{arith}
 use borrow.Author.Tests.{lt-ltb, le-ltb}
 use Rattle.rules.specs.Keyed.{find}
 use Rattle.register.proofs.Steps.{no_units, place_short, attached-step, group_step, none-step}
-use borrow.Author.Rules.{rules}
 use Rattle.register_units.proofs.find_unit.Goals as goal
 
 pub returns-then-register-ne-REGISTER : goal.returns-then-register-ne-REGISTER

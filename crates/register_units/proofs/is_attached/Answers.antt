@@ -1,7 +1,6 @@
 -- `register_units::is_attached` meets its contract. Assumes nothing.
 use Rattle.rules.specs.Keyed.{find}
 use Rattle.register.proofs.Steps.{no_units, attached-step}
-use borrow.Author.Rules.{rules}
 use Rattle.register_units.proofs.is_attached.Goals as goal
 
 pub returns-then-register-ne-REGISTER : goal.returns-then-register-ne-REGISTER

@@ -2,8 +2,7 @@
 use mathlib.Core.Path.{refl}
 use borrow.Author.Tests.{eq-eqb, ne_eqb, lt-leb}
 use Rattle.register.specs.Layout.{remove_unit}
-use Rattle.register.proofs.Steps.{remove_unit_step, unit_not_there, removed_length}
-use borrow.Author.Rules.{rules}
+use Rattle.register.proofs.Steps.{remove_unit_step, unit_not_there}
 use Rattle.register_units.proofs.remove_unit.Goals as goal
 
 pub returns-then-register-ne-REGISTER : goal.returns-then-register-ne-REGISTER

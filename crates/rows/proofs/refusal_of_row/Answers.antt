@@ -1,6 +1,5 @@
 -- `rows::refusal_of_row` meets its contract. Assumes nothing.
 use Rattle.rows.specs.Row.{row_refusal}
-use borrow.Author.Rules.{rules}
 use Rattle.rows.proofs.refusal_of_row.Goals as goal
 
 pub returns : goal.returns

@@ -1,8 +1,6 @@
 -- `rows::row_kept_lem` meets its contract. Assumes nothing.
 use mathlib.Core.Path.{sym, ◌∙◌}
-use borrow.Author.Tests.{not-false}
 use Rattle.rows.proofs.Rowed.{obeyed_fits, kept_broken, kept_net}
-use borrow.Author.Rules.{rules}
 use Rattle.std.proofs.Common.{ap}
 use mathlib.Core.Bool.{not}
 use Rattle.rows.proofs.row_kept.Goals as goal

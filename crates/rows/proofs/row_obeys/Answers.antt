@@ -1,6 +1,5 @@
 -- `rows::row_obeys` meets its contract. Assumes nothing.
 use Rattle.rows.specs.Row.{row_obeys}
-use borrow.Author.Rules.{rules}
 use Rattle.rows.proofs.row_obeys.Goals as goal
 
 pub returns : goal.returns

@@ -1,6 +1,5 @@
 -- `rows::row_of` meets its contract. Assumes nothing.
 use Rattle.rows.proofs.Rowed.{row-refused, row-shown}
-use borrow.Author.Rules.{rules}
 use Rattle.rows.proofs.row_of.Goals as goal
 
 pub returns-then-refusal-ne0 : goal.returns-then-refusal-ne0

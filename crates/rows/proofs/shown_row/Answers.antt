@@ -1,8 +1,6 @@
 -- `rows::shown_row` meets its contract. Assumes nothing.
 use mathlib.Core.Path.{sym, ◌∙◌}
-use borrow.Author.Tests.{not-false}
 use Rattle.rows.proofs.Rowed.{obeyed_fits, shown_broken, shown_made}
-use borrow.Author.Rules.{rules}
 use Rattle.std.proofs.Common.{ap}
 use mathlib.Core.Bool.{not}
 use Rattle.rows.proofs.shown_row.Goals as goal

@@ -1,7 +1,6 @@
 -- `rows::signed_net` meets its contract. Assumes nothing.
 use native.Mathlib.Omega.{arith}
 use Rattle.rows.proofs.Rowed.{fits_known, net_below, net_above}
-use borrow.Author.Rules.{rules}
 use Rattle.rows.proofs.signed_net.Goals as goal
 
 pub overflow_add-all : goal.overflow_add-all

@@ -1,7 +1,6 @@
 -- `rows_room::difference` meets its contract. Assumes nothing.
 use native.Mathlib.Omega.{arith}
 use Rattle.rows_room.proofs.Steps.{difference_below, difference-above}
-use borrow.Author.Rules.{rules}
 use Rattle.rows_room.proofs.difference.Goals as goal
 
 pub returns-then-a-b : goal.returns-then-a-b

@@ -1,6 +1,5 @@
 -- `rows_room::room_of` meets its contract. Assumes nothing.
 use Rattle.rows.specs.Room.{room_of}
-use borrow.Author.Rules.{rules}
 use Rattle.rows_room.proofs.room_of.Goals as goal
 
 pub returns-in-Nothing : goal.returns-in-Nothing

@@ -2,7 +2,6 @@
 use native.Mathlib.Omega.{arith}
 use Rattle.rows.specs.Room.{room_under}
 use Rattle.rows_room.proofs.Steps.{quota_small}
-use borrow.Author.Rules.{rules}
 use Rattle.rows_room.proofs.room_under.Goals as goal
 
 pub overflow_add-result : goal.overflow_add-result

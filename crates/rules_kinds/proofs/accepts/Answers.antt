@@ -1,6 +1,5 @@
 -- `rules_kinds::accepts` meets its contract. Assumes nothing.
 use Rattle.rules_kinds.proofs.Deciding.{shanghai_sums}
-use borrow.Author.Rules.{rules}
 use Rattle.rules_kinds.proofs.accepts.Goals as goal
 
 pub returns : goal.returns

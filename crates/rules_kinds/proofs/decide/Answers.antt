@@ -1,9 +1,8 @@
 -- `rules_kinds::decide` meets its contract. Assumes nothing.
 use native.Mathlib.Omega.{arith}
-use mathlib.Core.Logic.{◌⊎◌, inl, inr, ⊎_elim}
+use mathlib.Core.Logic.{inl, inr}
 use Rattle.rules.specs.Orders.{is_buy, price_rule, worse_fill}
 use Rattle.rules_kinds.proofs.Deciding.{no_kind}
-use borrow.Author.Rules.{rules}
 use Rattle.rules_kinds.proofs.decide.Goals as goal
 use Rattle.rules_kinds.proofs.decide.Goals.{in_default-via-then-kind-lt1, in_default-via-else-kind-lt1+else-kind-lt4}
 

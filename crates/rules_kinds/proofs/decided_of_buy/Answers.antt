@@ -1,7 +1,6 @@
 -- `rules_kinds::decided_of_buy` meets its contract. Assumes nothing.
 use Rattle.rules.specs.Orders.{is_buy, price_rule, worse_fill}
 use Rattle.rules_kinds.proofs.Deciding.{plain_buy}
-use borrow.Author.Rules.{rules}
 use Rattle.rules_kinds.proofs.decided_of_buy.Goals as goal
 
 pub returns-then-kind-eq3 : goal.returns-then-kind-eq3

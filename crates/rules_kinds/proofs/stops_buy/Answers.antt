@@ -1,6 +1,5 @@
 -- `rules_kinds::stops_buy` meets its contract. Assumes nothing.
 use Rattle.rules.specs.Orders.{stops}
-use borrow.Author.Rules.{rules}
 use Rattle.rules_kinds.proofs.stops_buy.Goals as goal
 
 pub returns-in-Nothing : goal.returns-in-Nothing

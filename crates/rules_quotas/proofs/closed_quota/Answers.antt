@@ -1,6 +1,5 @@
 -- `rules_quotas::closed_quota` meets its contract. Assumes nothing.
 use Rattle.rules.specs.Quotas.{closed_quota}
-use borrow.Author.Rules.{rules}
 use Rattle.rules_quotas.proofs.closed_quota.Goals as goal
 
 pub returns : goal.returns

@@ -1,11 +1,6 @@
 -- `rules_quotas::quota_at` meets its contract. Assumes nothing.
-use Prim.Native.Nat.{◌*◌, min}
-use mathlib.Core.Path.{ap, sym, ◌∙◌}
 use native.Mathlib.Omega.{arith}
-use Rattle.rules.specs.Limits.{top_quota, top_ratio}
-use Rattle.rules.specs.Money.{millions}
-use Rattle.rules_quotas.proofs.Ratios.{product_most, over_none}
-use borrow.Author.Rules.{rules}
+use Rattle.rules_quotas.proofs.Ratios.{product_most}
 use Rattle.rules_quotas.proofs.quota_at.Goals as goal
 
 pub overflow_mul-result-2 : goal.overflow_mul-result-2

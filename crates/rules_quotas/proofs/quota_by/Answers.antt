@@ -1,6 +1,5 @@
 -- `rules_quotas::quota_by` meets its contract. Assumes nothing.
 use Rattle.rules.specs.Quotas.{quota_by}
-use borrow.Author.Rules.{rules}
 use Rattle.rules_quotas.proofs.quota_by.Goals as goal
 
 pub returns : goal.returns

@@ -1,6 +1,5 @@
 -- `rules_trading::cancel_refusal` meets its contract. Assumes nothing.
 use Rattle.rules.specs.Lists.{cancel_rules}
-use borrow.Author.Rules.{rules}
 use Rattle.rules_trading.proofs.cancel_refusal.Goals as goal
 
 pub returns : goal.returns

@@ -1,6 +1,5 @@
 -- `rules_trading::fill_refusal` meets its contract. Assumes nothing.
 use Rattle.rules.specs.Lists.{fill_rules}
-use borrow.Author.Rules.{rules}
 use Rattle.rules_trading.proofs.fill_refusal.Goals as goal
 
 pub returns : goal.returns

@@ -1,7 +1,6 @@
 -- `rules_trading::order_refusal` meets its contract. Assumes nothing.
 use Rattle.rules.specs.Money.{amount}
 use Rattle.rules.specs.Lists.{order_rules}
-use borrow.Author.Rules.{rules}
 use Rattle.rules_trading.proofs.order_refusal.Goals as goal
 
 pub returns : goal.returns

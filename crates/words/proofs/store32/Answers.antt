@@ -1,13 +1,12 @@
 -- `words::store32` meets its contract: after j turns the first j words are pasted. Assumes nothing.
-use Prim.Native.Nat.{ℕ, ◌+◌, ◌≤◌, ◌<◌, ◌-◌}
-use mathlib.Core.Path.{◌≡◌, refl, sym, ◌∙◌}
+use Prim.Native.Nat.{◌+◌, ◌<◌}
+use mathlib.Core.Path.{◌≡◌, ◌∙◌}
 use native.Mathlib.Omega.{arith}
 use native.Mathlib.Numerals.{add-one}
-use borrow.Author.Tests.{lt-leb, le-leb}
+use borrow.Author.Tests.{le-leb}
 use lib.ListN.{length, get_or, set, length-set}
-use lib.Seq.{paste, paste-zero, paste-suc, length-paste, take-length}
+use lib.Seq.{paste, paste-suc, take-length}
 use Rattle.words.specs.Words.{splice}
-use borrow.Author.Rules.{rules}
 use Rattle.words.proofs.store32.Goals as goal
 
 pub loop-j-preserved : goal.loop-j-preserved

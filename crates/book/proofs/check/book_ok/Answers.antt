@@ -1,7 +1,6 @@
 -- `book::check::book_ok` meets its contract. Assumes nothing.
 use borrow.Author.Tests.{eq-eqb, ne_eqb, le-leb, lt-leb}
 use Rattle.book.specs.Check.{book_ok}
-use borrow.Author.Rules.{rules}
 use Rattle.book.proofs.check.book_ok.Goals as goal
 
 pub returns-then-book-ne-BOOK : goal.returns-then-book-ne-BOOK

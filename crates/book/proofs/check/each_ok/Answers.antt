@@ -1,10 +1,6 @@
 -- `book::check::each_ok` meets its contract. Assumes nothing.
-use Prim.Native.Nat.{◌≤◌, ◌+◌, ◌-◌}
-use mathlib.Core.Path.{◌≡◌, refl}
-use lib.Dec.{leb}
-use lib.ListN.{get_or}
-use Rattle.rules.specs.Limits.{top_money}
-use Rattle.words.specs.Each.{all_below, below_none, below_turn, below_end}
+use mathlib.Core.Path.{refl}
+use Rattle.words.specs.Each.{below_none, below_turn}
 use borrow.Author.Rules.{rules}
 use Rattle.book.proofs.check.each_ok.Goals as goal
 

@@ -1,11 +1,10 @@
 -- `book::check::each_ok` meets its contract. Assumes nothing.
 use Prim.Native.Nat.{◌≤◌, ◌+◌, ◌-◌}
-use mathlib.Core.Path.{◌≡◌, refl}
+use mathlib.Core.Path.{◌≡◌}
 use lib.Dec.{leb}
 use lib.ListN.{get_or}
 use Rattle.rules.specs.Limits.{top_money}
-use Rattle.words.specs.Each.{all_below, below_none, below_turn, below_end}
-use borrow.Author.Rules.{rules}
+use Rattle.words.specs.Each.{all_below}
 use Rattle.book.proofs.check.each_ok.Given as goal
 
 abbrev pub invariant-loop-j : goal.invariant-loop-j

@@ -1,5 +1,4 @@
-use Prim.Native.Nat.{◌≤◌, ◌-◌}
-use Rattle.book.specs.Joined.{Above, above-none, above_turn, above_end}
+use Rattle.book.specs.Joined.{above-none, above_turn}
 use borrow.Author.Rules.{rules}
 use Rattle.book.proofs.check.joined.Goals as goal
 

@@ -1,6 +1,5 @@
 use Prim.Native.Nat.{◌≤◌, ◌-◌}
-use Rattle.book.specs.Joined.{Above, above-none, above_turn, above_end}
-use borrow.Author.Rules.{rules}
+use Rattle.book.specs.Joined.{Above}
 use Rattle.book.proofs.check.joined.Given as goal
 
 abbrev pub invariant-loop-j : goal.invariant-loop-j

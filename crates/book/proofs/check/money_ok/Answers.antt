@@ -1,7 +1,6 @@
 use native.Mathlib.Omega.{arith}
 use mathlib.Core.Path.{sym}
 use Rattle.book.specs.Joined.{above_ok}
-use borrow.Author.Rules.{rules}
 use Rattle.book.proofs.check.money_ok.Goals as goal
 
 pub returns-then-joined-lt4611686018427387904 : goal.returns-then-joined-lt4611686018427387904

@@ -1,6 +1,5 @@
 -- `book::check::place_ok` meets its contract. Assumes nothing.
 use Rattle.book.specs.Check.{place_ok}
-use borrow.Author.Rules.{rules}
 use Rattle.book.proofs.check.place_ok.Goals as goal
 
 pub returns : goal.returns

@@ -1,7 +1,6 @@
 -- `callfile::words::is_call` meets its contract. Assumes nothing.
 use native.Mathlib.Omega.{arith}
 use Rattle.callfile.proofs.Heard.{code_low, code_high, code_given}
-use borrow.Author.Rules.{rules}
 use Rattle.callfile.proofs.words.is_call.Goals as goal
 
 pub returns-then-w-lt1 : goal.returns-then-w-lt1

@@ -1,6 +1,5 @@
 -- `callfile::words::words_fit` meets its contract. Assumes nothing.
 use Rattle.callfile.specs.Lines.{words_fit}
-use borrow.Author.Rules.{rules}
 use Rattle.callfile.proofs.words.words_fit.Goals as goal
 
 pub returns : goal.returns

@@ -1,6 +1,5 @@
 -- `callfile::words::words_of` meets its contract. Assumes nothing.
 use Rattle.callfile.specs.Lines.{words_of}
-use borrow.Author.Rules.{rules}
 use Rattle.callfile.proofs.words.words_of.Goals as goal
 
 pub returns-in-Enrol : goal.returns-in-Enrol

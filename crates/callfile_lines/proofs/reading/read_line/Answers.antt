@@ -1,6 +1,5 @@
 -- `callfile_lines::reading::read_line` meets its contract. Assumes nothing.
 use Rattle.callfile.proofs.Heard.{line_long, line-bad, line-good}
-use borrow.Author.Rules.{rules}
 use Rattle.std.proofs.Common.{ap}
 use mathlib.Core.Bool.{not}
 use Rattle.callfile_lines.proofs.reading.read_line.Goals as goal

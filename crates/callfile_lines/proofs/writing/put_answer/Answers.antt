@@ -1,11 +1,9 @@
 -- `callfile_lines::writing::put_answer` meets its contract. Assumes nothing.
-use native.Mathlib.Omega.{arith}
 use lib.ListN.{length}
 use Rattle.columns.specs.Column.{holds}
 use Rattle.columns.specs.Room.{told, held, unheld, unfit}
 use Rattle.callfile.specs.Lines.{answer_fits}
 use Rattle.callfile_lines.proofs.Puts.{answer_kept, answer-put}
-use borrow.Author.Rules.{rules}
 use Rattle.std.proofs.Common.{ap}
 use mathlib.Core.Bool.{not}
 use Rattle.callfile_lines.proofs.writing.put_answer.Goals as goal

@@ -1,12 +1,10 @@
 -- `callfile_lines::writing::put_call` meets its contract. Assumes nothing.
 use mathlib.Core.Path.{ap, ◌∙◌}
-use native.Mathlib.Omega.{arith}
 use lib.ListN.{length}
 use Rattle.columns.specs.Column.{holds}
 use Rattle.columns.specs.Room.{told, held, unheld, unfit}
 use Rattle.callfile.specs.Lines.{words_fit, call_fits, call_bytes}
 use Rattle.callfile_lines.proofs.Puts.{call_kept, call_put_lem}
-use borrow.Author.Rules.{rules}
 use mathlib.Core.Bool.{not}
 use Rattle.callfile_lines.proofs.writing.put_call.Goals as goal
 

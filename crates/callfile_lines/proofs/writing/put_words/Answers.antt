@@ -1,7 +1,6 @@
 -- `callfile_lines::writing::put_words` meets its contract. Assumes nothing.
 use Rattle.callfile.specs.Laws.{fit}
 use Rattle.callfile_lines.proofs.Puts.{words-put}
-use borrow.Author.Rules.{rules}
 use Rattle.callfile_lines.proofs.writing.put_words.Goals as goal
 
 pub returns : goal.returns

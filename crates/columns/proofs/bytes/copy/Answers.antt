@@ -1,11 +1,8 @@
 -- `columns::bytes::copy` meets its contract. Assumes nothing.
-use Prim.Native.Nat.{◌-◌, ◌≤◌}
-use mathlib.Core.Path.{◌≡◌, refl}
+use mathlib.Core.Path.{refl}
 use native.Mathlib.Omega.{arith}
 use lib.ListN.{length, length-set}
-use lib.Seq.{paste, paste-zero}
-use Rattle.columns.proofs.Steps.{put_on, put_over}
-use borrow.Author.Rules.{rules}
+use Rattle.columns.proofs.Steps.{put_on}
 use Rattle.columns.proofs.bytes.copy.Goals as goal
 
 pub loop-i-preserved : goal.loop-i-preserved

@@ -1,11 +1,8 @@
 -- `columns::bytes::is_same` meets its contract. Assumes nothing.
-use Prim.Native.Nat.{◌-◌, ◌≤◌}
-use mathlib.Core.Path.{◌≡◌, refl, sym, ◌∙◌}
+use mathlib.Core.Path.{refl, sym, ◌∙◌}
 use native.Mathlib.Omega.{arith}
-use lib.ListN.{length, drop}
-use Rattle.columns.specs.Column.{same, part}
+use lib.ListN.{length}
 use Rattle.columns.proofs.Steps.{same_on, same_not, same_over}
-use borrow.Author.Rules.{rules}
 use Rattle.columns.proofs.bytes.is_same.Goals as goal
 
 pub returns-then-text-at : goal.returns-then-text-at

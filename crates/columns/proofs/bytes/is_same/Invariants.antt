@@ -1,11 +1,8 @@
 -- `columns::bytes::is_same` meets its contract. Assumes nothing.
 use Prim.Native.Nat.{◌-◌, ◌≤◌}
-use mathlib.Core.Path.{◌≡◌, refl, sym, ◌∙◌}
-use native.Mathlib.Omega.{arith}
+use mathlib.Core.Path.{◌≡◌}
 use lib.ListN.{length, drop}
 use Rattle.columns.specs.Column.{same, part}
-use Rattle.columns.proofs.Steps.{same_on, same_not, same_over}
-use borrow.Author.Rules.{rules}
 use Rattle.columns.proofs.bytes.is_same.Given as goal
 
 abbrev pub invariant-loop-i : goal.invariant-loop-i

@@ -5,7 +5,6 @@ use borrow.Author.Tests.{leb-false}
 use Rattle.columns.specs.Column.{holds}
 use Rattle.columns.specs.Pastes.{text_put_lem, text_kept}
 use Rattle.columns.specs.Room.{held, denied}
-use borrow.Author.Rules.{rules}
 use Rattle.std.proofs.Common.{ap}
 use mathlib.Core.Bool.{not}
 use Rattle.columns.proofs.bytes.put_text.Goals as goal

@@ -1,9 +1,8 @@
 -- `columns::bytes::same_at` meets its contract. Assumes nothing.
 use lib.ListN.{length}
 use Rattle.columns.specs.Column.{holds}
-use Rattle.columns.specs.Room.{held, told, denied}
+use Rattle.columns.specs.Room.{told, denied}
 use Rattle.columns.proofs.Answers.{same_short, same_long}
-use borrow.Author.Rules.{rules}
 use Rattle.std.proofs.Common.{ap}
 use mathlib.Core.Bool.{not}
 use Rattle.columns.proofs.bytes.same_at.Goals as goal

@@ -1,6 +1,5 @@
 -- `columns_write::table::power` meets its contract. Assumes nothing.
 use Rattle.columns_powers.proofs.Table.{power_at}
-use borrow.Author.Rules.{rules}
 use Rattle.columns_write.proofs.table.power.Goals as goal
 
 pub returns : goal.returns

@@ -1,7 +1,6 @@
 -- `columns_write::tabled::digits_at` meets its contract. Assumes nothing.
 use mathlib.Core.Path.{◌∙◌}
 use Rattle.columns.proofs.Steps.{digits_last}
-use borrow.Author.Rules.{rules}
 use Rattle.columns_write.proofs.tabled.digits_at.Goals as goal
 
 pub returns : goal.returns

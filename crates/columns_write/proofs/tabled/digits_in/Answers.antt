@@ -5,7 +5,6 @@ use Rattle.columns.specs.Column.{holds}
 use Rattle.columns.specs.Pastes.{digits-read}
 use Rattle.columns.specs.Room.{held, denied}
 use Rattle.columns.proofs.Answers.{digits_missing}
-use borrow.Author.Rules.{rules}
 use Rattle.std.proofs.Common.{ap}
 use mathlib.Core.Bool.{not}
 use Rattle.columns_write.proofs.tabled.digits_in.Goals as goal

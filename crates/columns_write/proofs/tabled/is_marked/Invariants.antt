@@ -1,12 +1,8 @@
 -- `columns_write::tabled::is_marked` meets its contract. Assumes nothing.
 use Prim.Native.Nat.{◌-◌, ◌≤◌}
-use mathlib.Core.Path.{◌≡◌, refl, sym, ◌∙◌}
-use native.Mathlib.Omega.{arith}
+use mathlib.Core.Path.{◌≡◌}
 use lib.ListN.{drop}
 use Rattle.columns.specs.Column.{marked, same, part}
-use Rattle.columns.specs.Laws.{length_marked}
-use Rattle.columns.proofs.Steps.{marked-at, same_on, same_not, same_over}
-use borrow.Author.Rules.{rules}
 use Rattle.columns_write.proofs.tabled.is_marked.Given as goal
 
 abbrev pub invariant-loop-i : goal.invariant-loop-i

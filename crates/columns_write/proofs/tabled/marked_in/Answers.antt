@@ -5,7 +5,6 @@ use Rattle.columns.specs.Column.{holds}
 use Rattle.columns.specs.Pastes.{marked-read}
 use Rattle.columns.specs.Room.{held, denied}
 use Rattle.columns.proofs.Answers.{marked_missing, marked-many}
-use borrow.Author.Rules.{rules}
 use Rattle.std.proofs.Common.{ap}
 use mathlib.Core.Bool.{not}
 use Rattle.columns_write.proofs.tabled.marked_in.Goals as goal

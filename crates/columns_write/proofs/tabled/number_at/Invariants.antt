@@ -1,11 +1,8 @@
 -- `columns_write::tabled::number_at` meets its contract. Assumes nothing.
 use Prim.Native.Nat.{◌+◌, ◌-◌, ◌≤◌}
-use mathlib.Core.Path.{◌≡◌, refl}
-use native.Mathlib.Omega.{arith}
+use mathlib.Core.Path.{◌≡◌}
 use lib.ListN.{drop}
 use Rattle.columns.specs.Column.{number, part}
-use Rattle.columns.proofs.Steps.{sum_on, sum_fits, number_over}
-use borrow.Author.Rules.{rules}
 use Rattle.columns_write.proofs.tabled.number_at.Given as goal
 
 abbrev pub invariant-loop-i : goal.invariant-loop-i

@@ -1,9 +1,8 @@
 -- `columns_write::written::byte_at` meets its contract. Assumes nothing.
 use mathlib.Core.Path.{◌≡◌, sym, ◌∙◌}
 use mathlib.Core.Bool.{false}
-use Rattle.columns.specs.Laws.{ten_pos, blank_pos, byte_blank, byte_mark, byte_digit}
+use Rattle.columns.specs.Laws.{ten_pos, byte_blank, byte_mark, byte_digit}
 use Rattle.columns.proofs.Steps.{near}
-use borrow.Author.Rules.{rules}
 use Rattle.columns_write.proofs.written.byte_at.Goals as goal
 
 pub returns-then-is_blank-2 : goal.returns-then-is_blank-2

@@ -1,7 +1,6 @@
 -- `columns_write::written::is_blank` meets its contract. Assumes nothing.
 use mathlib.Core.Path.{sym}
 use Rattle.columns.proofs.Steps.{blank_far}
-use borrow.Author.Rules.{rules}
 use Rattle.columns_write.proofs.written.is_blank.Goals as goal
 
 pub returns-then-k-gt18 : goal.returns-then-k-gt18

@@ -1,13 +1,10 @@
 -- `columns_write::written::put_dash` meets its contract. Assumes nothing.
-use Prim.Native.Nat.{◌-◌, ◌≤◌}
-use mathlib.Core.Path.{◌≡◌, refl, ◌∙◌}
+use mathlib.Core.Path.{◌∙◌}
 use native.Mathlib.Omega.{arith}
-use lib.ListN.{length, length-set}
-use lib.Seq.{paste, paste-zero}
+use lib.ListN.{length-set}
 use Rattle.columns.specs.Column.{dashed}
 use Rattle.columns.specs.Laws.{length-dashed}
-use Rattle.columns.proofs.Steps.{dashed-at, put_on, put_over}
-use borrow.Author.Rules.{rules}
+use Rattle.columns.proofs.Steps.{dashed-at, put_on}
 use Rattle.columns_write.proofs.written.put_dash.Goals as goal
 
 pub loop-i-preserved : goal.loop-i-preserved

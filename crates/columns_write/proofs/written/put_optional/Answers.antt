@@ -4,10 +4,8 @@ use lib.ListN.{length}
 use mathlib.Core.Bool.{true, false}
 use Rattle.columns.specs.Column.{holds, optional_fits}
 use Rattle.columns.specs.Pastes.{optional_kept}
-use Rattle.columns.specs.Room.{told, held, unheld, unfit}
-use Rattle.columns.proofs.Room.{optional_small}
+use Rattle.columns.specs.Room.{unheld, unfit}
 use Rattle.columns_write.proofs.Puts.{optional_done}
-use borrow.Author.Rules.{rules}
 use Rattle.std.proofs.Common.{ap}
 use mathlib.Core.Bool.{not}
 use Rattle.columns_write.proofs.written.put_optional.Goals as goal

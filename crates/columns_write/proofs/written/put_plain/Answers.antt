@@ -2,11 +2,9 @@
 use mathlib.Core.Path.{sym}
 use lib.ListN.{length}
 use Rattle.columns.specs.Column.{holds, fits}
-use Rattle.columns.specs.Laws.{fits_small}
 use Rattle.columns.specs.Pastes.{plain_kept}
-use Rattle.columns.specs.Room.{told, held, unheld, unfit}
+use Rattle.columns.specs.Room.{unheld, unfit}
 use Rattle.columns_write.proofs.Puts.{plain_done}
-use borrow.Author.Rules.{rules}
 use Rattle.std.proofs.Common.{ap}
 use mathlib.Core.Bool.{not}
 use Rattle.columns_write.proofs.written.put_plain.Goals as goal

@@ -2,7 +2,6 @@
 use mathlib.Core.Path.{refl}
 use Rattle.claim.specs.Step.{step}
 use Rattle.gate_guard.proofs.Guarded.{same_memory}
-use borrow.Author.Rules.{rules}
 use Rattle.gate_call.proofs.calls.call.Goals as goal
 
 pub returns-in-Enrol : goal.returns-in-Enrol

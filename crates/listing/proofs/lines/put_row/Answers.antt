@@ -1,9 +1,6 @@
 -- `listing::lines::put_row` meets its contract. Assumes nothing.
-use mathlib.Core.Path.{sym, ◌∙◌}
 use native.Mathlib.Omega.{arith}
-use borrow.Author.Tests.{not-false}
 use Rattle.listing.proofs.Lined.{put_unruly, put_short, put_whole}
-use borrow.Author.Rules.{rules}
 use Rattle.std.proofs.Common.{ap}
 use mathlib.Core.Bool.{not}
 use Rattle.listing.proofs.lines.put_row.Goals as goal

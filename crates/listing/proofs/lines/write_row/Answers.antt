@@ -1,7 +1,5 @@
 -- `listing::lines::write_row` meets its contract. Assumes nothing.
-use native.Mathlib.Omega.{arith}
 use Rattle.listing.proofs.Lined.{row_written}
-use borrow.Author.Rules.{rules}
 use Rattle.listing.proofs.lines.write_row.Goals as goal
 
 pub returns : goal.returns

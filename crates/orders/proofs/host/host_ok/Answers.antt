@@ -1,6 +1,5 @@
 -- `orders::host::host_ok` meets its contract. Assumes nothing.
 use Rattle.orders.specs.Host.{host_ok}
-use borrow.Author.Rules.{rules}
 use Rattle.orders.proofs.host.host_ok.Goals as goal
 
 pub returns : goal.returns

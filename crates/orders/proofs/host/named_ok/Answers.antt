@@ -1,6 +1,5 @@
 -- `orders::host::named_ok` meets its contract. Assumes nothing.
 use Rattle.orders.specs.Host.{named_ok}
-use borrow.Author.Rules.{rules}
 use Rattle.orders.proofs.host.named_ok.Goals as goal
 
 pub returns : goal.returns

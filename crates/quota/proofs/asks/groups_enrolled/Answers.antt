@@ -1,6 +1,5 @@
 -- `quota::asks::groups_enrolled` meets its contract. Assumes nothing.
 use Rattle.quota.specs.Asks.{groups_enrolled}
-use borrow.Author.Rules.{rules}
 use Rattle.quota.proofs.asks.groups_enrolled.Goals as goal
 
 pub returns : goal.returns

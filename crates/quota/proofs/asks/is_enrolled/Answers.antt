@@ -1,6 +1,5 @@
 -- `quota::asks::is_enrolled` meets its contract. Assumes nothing.
 use Rattle.quota.specs.Asks.{is_enrolled}
-use borrow.Author.Rules.{rules}
 use Rattle.quota.proofs.asks.is_enrolled.Goals as goal
 
 pub returns : goal.returns

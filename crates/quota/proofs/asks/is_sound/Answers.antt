@@ -1,6 +1,5 @@
 -- `quota::asks::is_sound` meets its contract. Assumes nothing.
 use Rattle.quota.specs.Asks.{is_sound}
-use borrow.Author.Rules.{rules}
 use Rattle.quota.proofs.asks.is_sound.Goals as goal
 
 pub returns : goal.returns

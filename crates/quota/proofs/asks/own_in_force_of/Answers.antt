@@ -1,6 +1,5 @@
 -- `quota::asks::own_in_force_of` meets its contract. Assumes nothing.
 use Rattle.quota.specs.Asks.{own_in_force}
-use borrow.Author.Rules.{rules}
 use Rattle.quota.proofs.asks.own_in_force_of.Goals as goal
 
 pub returns : goal.returns

@@ -1,7 +1,6 @@
 -- `rules::codes::call_of` meets its contract. Assumes nothing.
 use Rattle.rules.specs.Codes.{call_of}
 use Rattle.rules.proofs.Coded.{other_call}
-use borrow.Author.Rules.{rules}
 use Rattle.std.proofs.Common.{arith}
 use Rattle.rules.proofs.codes.call_of.Goals as goal
 

@@ -1,7 +1,6 @@
 -- `rules::codes::order_call_of` meets its contract. Assumes nothing.
 use Rattle.rules.specs.Codes.{order_call_of}
 use Rattle.rules.proofs.Coded.{other_order}
-use borrow.Author.Rules.{rules}
 use Rattle.std.proofs.Common.{arith}
 use Rattle.rules.proofs.codes.order_call_of.Goals as goal
 

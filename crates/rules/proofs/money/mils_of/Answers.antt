@@ -1,7 +1,5 @@
 -- `rules::money::mils_of` meets its contract. Assumes nothing.
-use native.Mathlib.Omega.{arith}
 use Rattle.rules.specs.Money.{mils_of}
-use borrow.Author.Rules.{rules}
 use Rattle.rules.proofs.money.mils_of.Goals as goal
 
 pub returns : goal.returns

@@ -1,6 +1,5 @@
 -- `rules_declaring::declaring::attach_refusal` meets its contract. Assumes nothing.
 use Rattle.rules.specs.Lists.{attach_rules}
-use borrow.Author.Rules.{rules}
 use Rattle.rules_declaring.proofs.declaring.attach_refusal.Goals as goal
 
 pub returns : goal.returns

@@ -1,6 +1,5 @@
 -- `rules_declaring::declaring::detach_refusal` meets its contract. Assumes nothing.
 use Rattle.rules.specs.Lists.{detach_rules}
-use borrow.Author.Rules.{rules}
 use Rattle.rules_declaring.proofs.declaring.detach_refusal.Goals as goal
 
 pub returns : goal.returns

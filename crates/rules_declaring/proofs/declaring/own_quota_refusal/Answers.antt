@@ -1,6 +1,5 @@
 -- `rules_declaring::declaring::own_quota_refusal` meets its contract. Assumes nothing.
 use Rattle.rules.specs.Lists.{own_quota_rules}
-use borrow.Author.Rules.{rules}
 use Rattle.rules_declaring.proofs.declaring.own_quota_refusal.Goals as goal
 
 pub returns : goal.returns

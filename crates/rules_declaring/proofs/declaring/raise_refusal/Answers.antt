@@ -1,6 +1,5 @@
 -- `rules_declaring::declaring::raise_refusal` meets its contract. Assumes nothing.
 use Rattle.rules.specs.Lists.{raise_rules}
-use borrow.Author.Rules.{rules}
 use Rattle.rules_declaring.proofs.declaring.raise_refusal.Goals as goal
 
 pub returns : goal.returns

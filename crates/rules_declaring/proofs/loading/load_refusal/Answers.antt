@@ -1,6 +1,5 @@
 -- `rules_declaring::loading::load_refusal` meets its contract. Assumes nothing.
 use Rattle.rules.specs.Loads.{load_rules}
-use borrow.Author.Rules.{rules}
 use Rattle.rules_declaring.proofs.loading.load_refusal.Goals as goal
 
 pub returns : goal.returns
