@@ -1,7 +1,8 @@
 /* Ekhurtza: the front-end capital control gate, Shanghai market, for order routers in C and C++ (C99, C++17).
  *
  * Eight functions over memory that the router lends; the library keeps nothing between calls, allocates nothing and writes no file. Each is
- * proved, for memory of any content and any length, to answer and to leave behind exactly what its contract says (crates/router/src/lib.rt).
+ * proved, for memory of any content and any length, to answer and to leave behind exactly what its contract says (crates/router/src/lib.rt,
+ * exported by crates/router_c with the same contracts).
  * docs/EMBEDDING.md says who owns which memory and what the caller owes: every pointer is valid for its length, and no two slices overlap.
  * docs/FORMATS.md has the lines and columns, and in tables what each number below means. Names in quotes are sections of document 01.
  *

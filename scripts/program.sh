@@ -44,7 +44,7 @@ take_input() { # [FILE]
 crates_of() { # NAME...
     awk -v wanted="$*" '
         { sub(/#.*/, ""); i = index($0, ":") }
-        i { crate = substr($0, 1, i - 1); gsub(/[ \t]/, "", crate); needs[crate] = substr($0, i + 1) }
+        i { crate = $1; sub(/:.*/, "", crate); needs[crate] = substr($0, i + 1) }
         END {
             n = split(wanted, list, " ")
             for (k = 1; k <= n; k++) {

@@ -1,27 +1,25 @@
 -- Lines answered one after the other: one line more, and where they end. Assumes nothing.
 use Prim.Native.Nat.{ℕ, zero, suc, ◌+◌, ◌*◌, ◌-◌, ◌/◌, ◌≤◌, ◌<◌, min}
 use mathlib.Core.Path.{◌≡◌, refl, sym, ap, subst, ◌∙◌}
-use mathlib.Core.Bool.{Bool, true, false, not, ◌&&◌, false≢true}
+use mathlib.Core.Bool.{Bool, true, false, not, ◌&&◌}
 use mathlib.Core.List.{List, [], ◌∷◌, ◌++◌, append_assoc, append-nil}
 use native.Mathlib.Nat.{add_assoc, zero-add, suc-add}
 use native.Mathlib.Numerals.{add-one}
 use native.Mathlib.Omega.{arith}
-use borrow.Author.Tests.{le-leb, lt-leb, lt-ltb, le-ltb, ltb-true, ltb-false, eq-eqb, ne_eqb, eqb-false, not-true}
-use lib.Dec.{eqb, leb, ltb}
+use borrow.Author.Tests.{le-leb, lt-leb, lt-ltb, le-ltb, eq-eqb, ne_eqb, eqb-false, not-true}
+use lib.Dec.{eqb, leb}
 use lib.ListN.{length, take, drop, get_or, set, length-append, length-drop, drop_of_length-le}
 use lib.Seq.{paste, paste-zero, paste-suc, drop-paste, drop-cons, drop-drop, get_or-drop}
 use Rattle.rules.specs.Tests.{pick, both}
 use Rattle.rules.specs.Orders.{shanghai}
 use Rattle.rules.specs.Calls.{refused}
 use Rattle.rules.specs.Refusals.{malformed_number}
-use Rattle.rules.specs.declared.calls.Call.{Call}
 use Rattle.rules.specs.declared.calls.Answer.{Answer}
 use Rattle.columns.specs.Pastes.{chain_on}
 use Rattle.columns.specs.Laws.{length_marked}
 use Rattle.claim.specs.Step.{Memory, Stepped, step}
 use Rattle.callfile.specs.Lines.{read_line, answer_text, answer_fits, answer_put, call_bytes}
 use Rattle.callfile.specs.declared.reading.Line.{Line}
-use Rattle.day.specs.declared.Progress.{Progress}
 use Rattle.day.specs.Day.{line_step, held_to, printed, line_length, is_whole, first_line, behind_line, Told, none_told, before, told, told_in, Answered, rest_text, file_step, file_text, LoadAnswered, kept_bytes}
 
 -- ---- one line

@@ -1,7 +1,7 @@
 -- An input that comes in pieces is answered as if it came whole: lines told from a first piece and then from what is left of it with the
 -- next piece behind are the lines told from both together; and of a line that is too long already, thirty-nine bytes are as good as all.
 -- Assumes nothing.
-use Rattle.std.specs.Prelude.{ℕ, zero, suc, ◌+◌, ◌-◌, ◌≤◌, ◌<◌, ◌≡◌, refl, Bool, true, false, not, ◌&&◌, List, [], ◌∷◌, ◌++◌, eqb, ltb, length, take, drop}
+use Rattle.std.specs.Prelude.{ℕ, zero, suc, ◌+◌, ◌≤◌, ◌<◌, ◌≡◌, refl, Bool, true, false, List, [], ◌∷◌, ◌++◌, eqb, ltb, length, take, drop}
 use Rattle.std.proofs.Common.{sym, ap, ◌∙◌, append_assoc, add_assoc, zero-add, suc-add, arith, lt-ltb, le-ltb, ltb-true, ltb-false, ne_eqb, length-append, take-append-drop, drop-drop, length-take-le}
 use Rattle.std.proofs.lemmas.Bool.{false≢true}
 use Rattle.std.proofs.lemmas.List.{take-append-le, drop-append-le}
@@ -10,7 +10,7 @@ use Rattle.rules.specs.Tests.{pick}
 use Rattle.rules.specs.Calls.{refused}
 use Rattle.rules.specs.Refusals.{malformed_number}
 use Rattle.claim.specs.Step.{Memory, Stepped}
-use Rattle.callfile.specs.Lines.{columns_formed, is_call, line_of, line_formed, read_line, call_bytes, line_bytes}
+use Rattle.callfile.specs.Lines.{line_formed, read_line, call_bytes, line_bytes}
 use Rattle.day.specs.Day.{line_step, printed, line_length, is_whole, first_line, behind_line, Told, none_told, before, told}
 
 -- ---- pieces

@@ -1,7 +1,7 @@
 -- What gateday prints for its input: an answer for each line, in order. "Program `gateday` .. reads call lines from standard input, prints for
 -- each the refusal number or 0 in 3 columns and the group or order number given (else 0) in 6, line feed". A text is a list of bytes: 10 is
 -- the line feed. (Lines and columns)
-use Rattle.std.specs.Prelude.{ℕ, zero, suc, ◌+◌, ◌-◌, ◌/◌, min, ◌≡◌, Bool, true, false, ◌&&◌, List, [], ◌∷◌, ◌++◌, eqb, leb, ltb, length, take, drop}
+use Rattle.std.specs.Prelude.{ℕ, zero, suc, ◌+◌, ◌-◌, ◌/◌, min, ◌≡◌, Bool, ◌&&◌, List, [], ◌∷◌, ◌++◌, eqb, leb, ltb, length, take, drop}
 use Rattle.std.proofs.Math.Seq.{paste}
 use Rattle.rules.specs.Tests.{pick}
 use Rattle.rules.specs.Orders.{shanghai}

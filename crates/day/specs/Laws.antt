@@ -1,8 +1,8 @@
 -- Laws of the lines told. Assumes nothing.
-use Rattle.std.specs.Prelude.{ℕ, zero, suc, ◌+◌, ◌-◌, ◌≤◌, ◌<◌, min, ◌≡◌, refl, Bool, true, false, List, leb, ltb, length, take, drop}
+use Rattle.std.specs.Prelude.{ℕ, zero, suc, ◌+◌, ◌-◌, ◌≤◌, min, ◌≡◌, refl, Bool, true, false, List, leb, length, take, drop}
 use Rattle.std.proofs.Common.{arith, leb-true, ltb-true, length-drop, length-take-le}
 use Rattle.rules.specs.Tests.{pick}
-use Rattle.claim.specs.Step.{Memory, Stepped}
+use Rattle.claim.specs.Step.{Memory}
 use Rattle.day.specs.Day.{line_step, line_length, is_whole, first_line, behind_line, Told, none_told, before, told, kept_bytes}
 use Rattle.callfile.specs.Lines.{call_bytes}
 

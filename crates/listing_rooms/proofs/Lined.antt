@@ -1,12 +1,11 @@
 -- Lines of rooms: four columns put one behind the other are a row's line; the reader's row is the listing's; one row more, and the end. Assumes nothing.
-use Prim.Native.Nat.{ℕ, zero, suc, ◌+◌, ◌*◌, ◌/◌, ◌≤◌, ◌<◌}
+use Prim.Native.Nat.{ℕ, ◌+◌, ◌*◌, ◌/◌, ◌≤◌, ◌<◌}
 use mathlib.Core.Path.{◌≡◌, refl, ap, sym, ◌∙◌}
 use mathlib.Core.Bool.{Bool, true, false, false≢true}
 use mathlib.Core.List.{List, [], ◌∷◌, ◌++◌}
 use native.Mathlib.Numerals.{add-one}
 use native.Mathlib.Omega.{arith}
 use borrow.Author.Tests.{lt-ltb, le-ltb}
-use lib.Dec.{ltb}
 use lib.ListN.{length, get_or, take}
 use lib.Seq.{paste, paste-zero, take_all, length-take-le}
 use Rattle.columns.specs.Column.{marked, column, plain_put, text_put}
@@ -19,7 +18,7 @@ use Rattle.listing.specs.Text.{is_listing, rows_in, refusal_of_text, step_of, ro
 use Rattle.listing.specs.RowLaws.{Fitting, fitting}
 use Rattle.listing.specs.Laws.{hands_out_checked, length-rows}
 use Rattle.rules.specs.Refusals.{malformed_number}
-use Rattle.listing.specs.Rooms.{room_bytes, most_room_bytes, rooms_of, rooms_put, rooms_length, refused_text, left_text, left_put, room_text, rooms_text, left_fits, length-room, length_rooms, rooms_last, take_last, row_keeps}
+use Rattle.listing.specs.Rooms.{room_bytes, most_room_bytes, rooms_of, rooms_put, rooms_length, refused_text, left_text, left_put, room_text, rooms_text, left_fits, length_rooms, rooms_last, take_last, row_keeps}
 use Rattle.listing.specs.declared.texts.Step.{Step}
 use Rattle.listing.specs.declared.texts.Step.TheVariants.{Next, Broken, End}
 use Rattle.listing.proofs.Lined.{Grown, room, more, plain_more, optional_more, signed-more}

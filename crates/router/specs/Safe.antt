@@ -2,7 +2,7 @@
 -- memory as it was; memory with a figure out of its range is answered by 1; and a code that is no call's is refused by 2.
 -- `step` is the definition that the contract of `ekhurtza_call` names, `step_entry` that of `ekhurtza_load`. Assumes nothing.
 use Rattle.std.specs.Prelude.{ℕ, zero, suc, ◌+◌, ◌-◌, ◌*◌, ◌≤◌, ◌≡◌, refl, ◌≢◌, Bool, true, false, not, ◌&&◌, List, [], ◌∷◌, ltb}
-use Rattle.std.proofs.Common.{sym, ◌∙◌, arith, ne_eqb}
+use Rattle.std.proofs.Common.{sym, arith, ne_eqb}
 use Rattle.std.proofs.lemmas.Bool.{false≢true}
 use Rattle.rules.specs.Tests.{pick}
 use Rattle.rules.specs.Calls.{accepted, refused}

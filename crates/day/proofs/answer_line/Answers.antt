@@ -2,7 +2,6 @@
 use borrow.Author.Tests.{not-true, not-false}
 use Rattle.claim.specs.Step.{memory}
 use Rattle.day.proofs.Telling.{line-malformed, line_called}
-use borrow.Author.Rules.{rules}
 use Rattle.day.proofs.answer_line.Goals as goal
 
 pub returns-then-not-read : goal.returns-then-not-read

@@ -1,11 +1,11 @@
 -- `day::answer_lines` meets its contract. Assumes nothing.
-use Prim.Native.Nat.{◌*◌, ◌-◌, ◌/◌, ◌≤◌}
-use mathlib.Core.Path.{◌≡◌, refl, ap}
+use Prim.Native.Nat.{◌/◌}
+use mathlib.Core.Path.{refl, ap}
 use native.Mathlib.Omega.{arith}
 use lib.ListN.{length}
 use Rattle.claim.specs.Step.{memory}
 use Rattle.day.specs.Day.{told}
-use Rattle.day.proofs.Telling.{Reached, reached_start, reached_on, reached_end, all_answered}
+use Rattle.day.proofs.Telling.{reached_start, reached_on, reached_end, all_answered}
 use borrow.Author.Rules.{rules}
 use Rattle.day.proofs.answer_lines.Goals as goal
 

@@ -1,12 +1,9 @@
 -- `day::answer_lines` meets its contract. Assumes nothing.
-use Prim.Native.Nat.{◌*◌, ◌-◌, ◌/◌, ◌≤◌}
-use mathlib.Core.Path.{◌≡◌, refl, ap}
-use native.Mathlib.Omega.{arith}
+use Prim.Native.Nat.{◌-◌, ◌/◌, ◌≤◌}
+use mathlib.Core.Path.{◌≡◌}
 use lib.ListN.{length}
 use Rattle.claim.specs.Step.{memory}
-use Rattle.day.specs.Day.{told}
-use Rattle.day.proofs.Telling.{Reached, reached_start, reached_on, reached_end, all_answered}
-use borrow.Author.Rules.{rules}
+use Rattle.day.proofs.Telling.{Reached}
 use Rattle.day.proofs.answer_lines.Given as goal
 
 abbrev pub invariant-loop-k : goal.invariant-loop-k

@@ -1,7 +1,6 @@
 -- `day::answer_load` meets its contract. Assumes nothing.
 use Rattle.claim.specs.Step.{memory}
 use Rattle.day.proofs.Telling.{load_short, load_printed}
-use borrow.Author.Rules.{rules}
 use Rattle.day.proofs.answer_load.Goals as goal
 
 pub returns-then-out-lt-ANSWER_BYTES : goal.returns-then-out-lt-ANSWER_BYTES

@@ -1,6 +1,5 @@
 -- `day::answer_rest` meets its contract. Assumes nothing.
 use Rattle.day.proofs.Telling.{rest_none, rest_short, rest_printed}
-use borrow.Author.Rules.{rules}
 use Rattle.day.proofs.answer_rest.Goals as goal
 
 pub returns-then-rest-lt1 : goal.returns-then-rest-lt1

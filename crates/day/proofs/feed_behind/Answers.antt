@@ -1,11 +1,6 @@
 -- `day::feed_behind` meets its contract. Assumes nothing.
-use Prim.Native.Nat.{◌+◌, ◌-◌, ◌≤◌}
-use mathlib.Core.Path.{◌≡◌}
 use native.Mathlib.Omega.{arith}
-use lib.ListN.{length, drop}
-use Rattle.day.specs.Day.{line_length}
 use Rattle.day.proofs.Telling.{line_here, line_on, line_over}
-use borrow.Author.Rules.{rules}
 use Rattle.day.proofs.feed_behind.Goals as goal
 
 pub returns-then-text-e-eq10 : goal.returns-then-text-e-eq10

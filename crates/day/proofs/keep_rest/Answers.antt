@@ -1,7 +1,5 @@
 -- `day::keep_rest` meets its contract. Assumes nothing.
-use native.Mathlib.Omega.{arith}
 use Rattle.day.proofs.Telling.{kept_long, kept_none, kept_some}
-use borrow.Author.Rules.{rules}
 use Rattle.day.proofs.keep_rest.Goals as goal
 
 pub returns-then-buffer-filled : goal.returns-then-buffer-filled

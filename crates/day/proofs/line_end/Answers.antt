@@ -1,8 +1,6 @@
 -- `day::line_end` meets its contract. Assumes nothing.
 use native.Mathlib.Omega.{arith}
-use borrow.Author.Tests.{not-false}
 use Rattle.day.proofs.Telling.{past_end}
-use borrow.Author.Rules.{rules}
 use Rattle.callfile.specs.Lines.{line_bytes}
 use Rattle.day.proofs.line_end.Goals as goal
 

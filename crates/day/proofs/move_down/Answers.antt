@@ -1,10 +1,6 @@
 -- `day::move_down` meets its contract. Assumes nothing.
-use Prim.Native.Nat.{◌-◌, ◌≤◌}
-use mathlib.Core.Path.{◌≡◌}
 use native.Mathlib.Omega.{arith}
-use lib.ListN.{length, drop}
-use lib.Seq.{paste, paste-zero}
-use Rattle.day.proofs.Telling.{moved_on_lem, moved_all}
+use Rattle.day.proofs.Telling.{moved_on_lem}
 use borrow.Author.Rules.{rules}
 use Rattle.day.proofs.move_down.Goals as goal
 

@@ -1,11 +1,8 @@
 -- `day::move_down` meets its contract. Assumes nothing.
 use Prim.Native.Nat.{◌-◌, ◌≤◌}
 use mathlib.Core.Path.{◌≡◌}
-use native.Mathlib.Omega.{arith}
 use lib.ListN.{length, drop}
-use lib.Seq.{paste, paste-zero}
-use Rattle.day.proofs.Telling.{moved_on_lem, moved_all}
-use borrow.Author.Rules.{rules}
+use lib.Seq.{paste}
 use Rattle.day.proofs.move_down.Given as goal
 
 abbrev pub invariant-loop-i : goal.invariant-loop-i

@@ -1,12 +1,6 @@
 -- `day::no_feed` meets its contract. Assumes nothing.
-use Prim.Native.Nat.{◌-◌, ◌≤◌}
-use mathlib.Core.Path.{◌≡◌}
-use mathlib.Core.Bool.{true}
 use native.Mathlib.Omega.{arith}
-use lib.ListN.{drop}
-use Rattle.day.specs.Day.{line_length}
 use Rattle.day.proofs.Telling.{none_on}
-use borrow.Author.Rules.{rules}
 use Rattle.day.proofs.no_feed.Goals as goal
 
 pub loop-k-preserved : goal.loop-k-preserved

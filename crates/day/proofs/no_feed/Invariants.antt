@@ -2,11 +2,8 @@
 use Prim.Native.Nat.{◌-◌, ◌≤◌}
 use mathlib.Core.Path.{◌≡◌}
 use mathlib.Core.Bool.{true}
-use native.Mathlib.Omega.{arith}
 use lib.ListN.{drop}
 use Rattle.day.specs.Day.{line_length}
-use Rattle.day.proofs.Telling.{none_on}
-use borrow.Author.Rules.{rules}
 use Rattle.day.proofs.no_feed.Given as goal
 
 abbrev pub invariant-loop-k : goal.invariant-loop-k

@@ -1,6 +1,5 @@
 -- `day::put_printed` meets its contract. Assumes nothing.
 use Rattle.day.proofs.Telling.{printed-put, held_is}
-use borrow.Author.Rules.{rules}
 use Rattle.day.proofs.put_printed.Goals as goal
 
 pub returns : goal.returns

@@ -6,7 +6,6 @@ use lib.Seq.{paste}
 use Rattle.rows.specs.declared.Row.{Row}
 use Rattle.listing.specs.Rooms.{room_bytes, room_text, rows_few}
 use Rattle.listing_rooms.proofs.Lined.{row_is_lem, row_kept_lem, never_broken, never_ends}
-use borrow.Author.Rules.{rules}
 use Rattle.listing_rooms.proofs.put_next.Goals as goal
 
 pub overflow_mul-i : goal.overflow_mul-i

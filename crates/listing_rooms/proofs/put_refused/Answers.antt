@@ -1,6 +1,5 @@
 -- `listing_rooms::put_refused` meets its contract. Assumes nothing.
 use Rattle.listing_rooms.proofs.Lined.{refused_written}
-use borrow.Author.Rules.{rules}
 use Rattle.listing_rooms.proofs.put_refused.Goals as goal
 
 pub returns : goal.returns

@@ -4,7 +4,6 @@ use mathlib.Core.Path.{ap, ◌∙◌}
 use Rattle.rows.specs.declared.Room.{Room}
 use Rattle.listing.specs.Rooms.{left_put}
 use Rattle.listing_rooms.proofs.Lined.{room_written}
-use borrow.Author.Rules.{rules}
 use Rattle.listing_rooms.proofs.put_room.Goals as goal
 
 pub returns : goal.returns

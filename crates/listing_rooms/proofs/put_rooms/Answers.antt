@@ -1,12 +1,6 @@
 -- `listing_rooms::put_rooms` meets its contract. Assumes nothing.
-use Prim.Native.Nat.{◌*◌, ◌-◌, ◌≤◌}
-use mathlib.Core.Path.{◌≡◌, refl}
 use native.Mathlib.Omega.{arith}
-use lib.ListN.{length, take}
-use lib.Seq.{paste}
-use Rattle.listing.specs.Text.{rows_in}
-use Rattle.listing.specs.Rooms.{room_bytes, rooms_text}
-use Rattle.listing_rooms.proofs.Lined.{rooms_none, rooms_step, rooms_end}
+use Rattle.listing_rooms.proofs.Lined.{rooms_step}
 use borrow.Author.Rules.{rules}
 use Rattle.listing_rooms.proofs.put_rooms.Goals as goal
 

@@ -1,13 +1,10 @@
 -- `listing_rooms::put_rooms` meets its contract. Assumes nothing.
 use Prim.Native.Nat.{◌*◌, ◌-◌, ◌≤◌}
-use mathlib.Core.Path.{◌≡◌, refl}
-use native.Mathlib.Omega.{arith}
+use mathlib.Core.Path.{◌≡◌}
 use lib.ListN.{length, take}
 use lib.Seq.{paste}
 use Rattle.listing.specs.Text.{rows_in}
 use Rattle.listing.specs.Rooms.{room_bytes, rooms_text}
-use Rattle.listing_rooms.proofs.Lined.{rooms_none, rooms_step, rooms_end}
-use borrow.Author.Rules.{rules}
 use Rattle.listing_rooms.proofs.put_rooms.Given as goal
 
 abbrev pub invariant-loop-i : goal.invariant-loop-i

@@ -3,7 +3,6 @@ use native.Mathlib.Omega.{arith}
 use mathlib.Core.Path.{sym, ◌∙◌}
 use Rattle.listing.specs.Rooms.{rows_few}
 use Rattle.listing_rooms.proofs.Lined.{listing_known, count_rows, put_short, put_refused, put-listed}
-use borrow.Author.Rules.{rules}
 use Rattle.listing_rooms.proofs.write_rooms.Goals as goal
 
 pub returns-then-out-lt-MOST_ROOMS : goal.returns-then-out-lt-MOST_ROOMS

@@ -1,6 +1,5 @@
 -- `router::ekhurtza_call_line` meets its contract. Assumes nothing.
 use Rattle.router.proofs.Outcome.{line-put}
-use borrow.Author.Rules.{rules}
 use Rattle.router.proofs.ekhurtza_call_line.Goals as goal
 
 pub returns : goal.returns

@@ -3,7 +3,6 @@ use native.Mathlib.Omega.{arith}
 use mathlib.Core.Path.{sym, ◌∙◌}
 use lib.ListN.{length}
 use Rattle.router.proofs.Handing.{none-listed, listed-fits, all_listed}
-use borrow.Author.Rules.{rules}
 use Rattle.router.proofs.ekhurtza_listing.Goals as goal
 
 pub returns-then-refusal-ne0 : goal.returns-then-refusal-ne0

@@ -2,7 +2,6 @@
 use mathlib.Core.Path.{sym, ◌∙◌}
 use lib.ListN.{length}
 use Rattle.router.proofs.Outcome.{row_there, none_found, row-found}
-use borrow.Author.Rules.{rules}
 use Rattle.router.proofs.ekhurtza_read_row.Goals as goal
 
 pub returns-then-refusal-ne0 : goal.returns-then-refusal-ne0

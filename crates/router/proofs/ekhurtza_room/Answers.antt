@@ -1,6 +1,5 @@
 -- `router::ekhurtza_room` meets its contract. Assumes nothing.
 use Rattle.router.proofs.Outcome.{none_read, none_left, room_left}
-use borrow.Author.Rules.{rules}
 use Rattle.router.proofs.ekhurtza_room.Goals as goal
 
 pub returns-then-read-ne0 : goal.returns-then-read-ne0

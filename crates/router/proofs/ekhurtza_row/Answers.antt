@@ -1,7 +1,6 @@
 -- `router::ekhurtza_row` meets its contract. Assumes nothing.
 use mathlib.Core.Path.{refl}
 use Rattle.router.proofs.Handing.{row-refused, row_short, row_handed}
-use borrow.Author.Rules.{rules}
 use Rattle.router.proofs.ekhurtza_row.Goals as goal
 
 pub returns-then-read-ne0 : goal.returns-then-read-ne0

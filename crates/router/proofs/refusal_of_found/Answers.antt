@@ -1,6 +1,5 @@
 -- `router::refusal_of_found` meets its contract. Assumes nothing.
 use Rattle.router.proofs.Outcome.{found_refused}
-use borrow.Author.Rules.{rules}
 use Rattle.router.proofs.refusal_of_found.Goals as goal
 
 pub returns : goal.returns

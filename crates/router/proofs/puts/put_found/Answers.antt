@@ -6,7 +6,6 @@ use Rattle.rows.specs.declared.Row.{Row}
 use Rattle.listing.specs.Rooms.{rows_few}
 use Rattle.router.specs.Handed.{row_words}
 use Rattle.router.proofs.Outcome.{row_is_lem, never_broken, never_ends}
-use borrow.Author.Rules.{rules}
 use Rattle.router.proofs.puts.put_found.Goals as goal
 
 pub overflow_mul-k : goal.overflow_mul-k

@@ -1,6 +1,5 @@
 -- `router::puts::put_row` meets its contract. Assumes nothing.
 use Rattle.router.proofs.Handing.{row_put_lem}
-use borrow.Author.Rules.{rules}
 use Rattle.router.proofs.puts.put_row.Goals as goal
 
 pub returns : goal.returns
