@@ -1,10 +1,9 @@
 -- A run from the opening: refused for its lengths, refused for its opening, or run. Assumes nothing.
-use Prim.Native.Nat.{ℕ, zero, suc}
+use Prim.Native.Nat.{ℕ}
 use mathlib.Core.Path.{◌≡◌, refl, sym, ap, ◌∙◌}
 use mathlib.Core.Logic.{◌≢◌}
 use mathlib.Core.List.{List}
 use Rattle.rules.specs.Orders.{shanghai}
-use Rattle.rules.specs.Refusals.{unless_refused}
 use Rattle.rules.specs.Laws.{where_refused, where_accepted}
 use Rattle.history.specs.Past.{at_opening}
 use Rattle.history.specs.Runs.{answers, calls}

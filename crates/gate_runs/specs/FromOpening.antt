@@ -5,7 +5,7 @@ use Rattle.rules.specs.Orders.{shanghai}
 use Rattle.rules.specs.Refusals.{unless_refused}
 use Rattle.history.specs.Past.{at_opening}
 use Rattle.history.specs.Runs.{answers, calls}
-use Rattle.claim.specs.Step.{Memory, memory}
+use Rattle.claim.specs.Step.{Memory}
 use Rattle.claim.specs.Opening.{places_lent, open_refusal}
 use Rattle.claim.specs.Demand.{run, opened, Demand}
 use Rattle.gate_runs.specs.Runs.{calls_of, answer_words, run_refusal}

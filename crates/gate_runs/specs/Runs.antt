@@ -1,6 +1,6 @@
 -- A lent list of calls, run in order: five words a call, "the code, 1 to 11", and four fields in the paper's order; two words an answer, the refusal
 -- and the number given. Fields that a call does not use are ignored. Shanghai's rule. (Lines and columns)
-use Rattle.std.specs.Prelude.{ℕ, zero, suc, ◌+◌, ◌*◌, ◌/◌, ◌≡◌, refl, Bool, false, ◌&&◌, List, [], ◌∷◌, ◌++◌, eqb, length, get_or}
+use Rattle.std.specs.Prelude.{ℕ, zero, suc, ◌+◌, ◌*◌, ◌/◌, ◌&&◌, List, [], ◌∷◌, ◌++◌, eqb, length, get_or}
 use Rattle.rules.specs.Tests.{pick}
 use Rattle.rules.specs.Orders.{shanghai}
 use Rattle.rules.specs.Codes.{call_of}

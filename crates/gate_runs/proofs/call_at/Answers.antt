@@ -1,6 +1,5 @@
 -- `gate_runs::call_at` meets its contract. Assumes nothing.
 use Rattle.gate_runs.specs.Runs.{call_at}
-use borrow.Author.Rules.{rules}
 use Rattle.gate_runs.proofs.call_at.Goals as goal
 
 pub returns : goal.returns

@@ -1,6 +1,5 @@
 -- `gate_runs::refusal_of_run` meets its contract. Assumes nothing.
 use Rattle.gate_runs.specs.Runs.{run_refusal}
-use borrow.Author.Rules.{rules}
 use Rattle.gate_runs.proofs.refusal_of_run.Goals as goal
 
 pub returns-then-ok : goal.returns-then-ok

@@ -1,14 +1,12 @@
 -- `gate_runs::run` meets its contract. Assumes nothing.
 use Prim.Native.Nat.{◌*◌, ◌≤◌, ◌-◌}
-use mathlib.Core.Path.{◌≡◌, refl, sym, ◌∙◌}
-use native.Mathlib.Omega.{arith}
+use mathlib.Core.Path.{◌≡◌}
 use lib.ListN.{length}
 use Rattle.rules.specs.Orders.{shanghai}
 use Rattle.claim.specs.Step.{memory}
 use Rattle.claim.specs.Demand.{run}
 use Rattle.gate_runs.specs.Runs.{decoded, call_count}
-use Rattle.gate_runs.proofs.Ran.{room_after, start_memory, start_room, turn_memory, turn_room, run_known, run-refused, run-done}
-use borrow.Author.Rules.{rules}
+use Rattle.gate_runs.proofs.Ran.{room_after}
 use Rattle.gate_runs.proofs.run.Given as goal
 
 abbrev pub invariant-loop-i : goal.invariant-loop-i

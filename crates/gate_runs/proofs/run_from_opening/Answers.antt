@@ -1,6 +1,5 @@
 -- `gate_runs::run_from_opening` meets its contract. Assumes nothing.
 use Rattle.gate_runs.proofs.Started.{wrong_lengths, not_opened, ran}
-use borrow.Author.Rules.{rules}
 use Rattle.claim.specs.Step.{memory}
 use Rattle.gate_runs.proofs.run_from_opening.Goals as goal
 
