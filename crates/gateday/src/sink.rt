@@ -28,7 +28,7 @@ impl<W: Write> Sink<W> {
     }
 }
 
-// What a program that was written for `cat` and `head` ends with: nobody reads on is no error, and has the status of a filter that a broken pipe ended.
+// That nobody reads on is said by the status alone: that of a filter which a broken pipe ended, 128 + SIGPIPE.
 const BROKEN_PIPE: u8 = 141;
 
 impl<W: Write + Drop> Sink<W> {

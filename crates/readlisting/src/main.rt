@@ -40,7 +40,7 @@ fn read_text<R: Read>(source: &mut R, text: &mut [u8]) -> usize
     filled
 }
 
-// How a program ends that was written for `cat` and `head`: nobody reads on is no error, and has the status of a filter that a broken pipe ended.
+// That nobody reads on is said by the status alone: that of a filter which a broken pipe ended, 128 + SIGPIPE.
 const BROKEN_PIPE: u8 = 141;
 
 // The first n bytes, to the sink, and how the program ends.
