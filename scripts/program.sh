@@ -148,8 +148,8 @@ show_progress() { # HOW-MANY-CRATES
 
 # ---- running
 
-# Standard input through the program, with its arguments, to standard output. The two cats tell by their status whether all was read and all was written, which
-# the program does not; they pass on what they get as they get it, so that an answer comes before the next line is written.
+# Standard input through the program, with its arguments, to standard output. The two cats tell by their status whether all was read and all was written:
+# the program sees only the pipes between; they pass on what they get as they get it, so that an answer comes before the next line is written.
 filter() { # NAME [ARGUMENT...]
     cat | "$top/target/bin/$1" "${@:2}" | cat
     judge "${PIPESTATUS[@]}"

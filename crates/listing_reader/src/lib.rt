@@ -1,6 +1,6 @@
 // The reader: "checks the whole text, then hands out the rows one after the other". `opened` checks; `next` at 0, 108, 216, .. gives the rows of a
-// listing in order, then the end, and of any other text nothing (listing/specs/Laws.antt, `hands-out-checked`, `ends-checked` and
-// `hands-nothing`). (Lines and columns)
+// listing in order, then the end, and of any other text nothing (listing/specs/Laws.antt, `hands_out_checked`, `ends_checked` and
+// `hands_nothing`). (Lines and columns)
 #![tactic(auto)]
 
 ghost use Rattle.std.specs.Prelude.{◌≡◌};

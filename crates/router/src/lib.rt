@@ -61,7 +61,7 @@ pub fn ekhurtza_open(register: &mut [u32], book: &mut [u64], places: &[u64]) -> 
     open(register, book, places)
 }
 
-// A call by its code and four fields. A code other than 1 to 11 is refused by 2 in a sound gate, by 1 in another (rules' `noCall`).
+// A call by its code and four fields. A code other than 1 to 11 is refused by 2 in a sound gate, by 1 in another (rules' `no_call`).
 pub fn ekhurtza_call(
     register: &mut [u32],
     book: &mut [u64],
