@@ -1,10 +1,8 @@
 -- `rules_kinds::decide` meets its contract. Assumes nothing.
 use native.Mathlib.Omega.{arith}
-use mathlib.Core.Logic.{inl, inr}
 use Rattle.rules.specs.Orders.{is_buy, price_rule, worse_fill}
 use Rattle.rules_kinds.proofs.Deciding.{no_kind}
 use Rattle.rules_kinds.proofs.decide.Goals as goal
-use Rattle.rules_kinds.proofs.decide.Goals.{in_default-via-then-kind-lt1, in_default-via-else-kind-lt1+else-kind-lt4}
 
 pub returns-in-4 : goal.returns-in-4
 unfolding is_buy price_rule worse_fill
@@ -21,6 +19,4 @@ returns-in-6 c = rw c.in-6.is
 pub returns-in_default : goal.returns-in_default
 returns-in_default c =
     rw c.in_price_range-in_default.ensures
-    (no_kind c.args.kind c.args.price c.args.fill
-    (elim c.in_default.branch [ in_default-via-then-kind-lt1 w ↦ inl (omega arith) | in_default-via-else-kind-lt1+else-kind-lt4 w ↦ inr (omega arith) ])
-    (omega arith) (omega arith) (omega arith))
+    (no_kind c.args.kind c.args.price c.args.fill (grind arith) (omega arith) (omega arith) (omega arith))
