@@ -3,13 +3,13 @@ use std::io;
 use std::io::{ErrorKind, Write};
 use std::process::ExitCode;
 
-pub struct Sink<W> {
+pub(crate) struct Sink<W> {
     writer: W,
     failure: Option<io::Error>,
 }
 
 impl<W: Write> Sink<W> {
-    pub fn new(writer: W) -> Sink<W> {
+    pub(crate) fn new(writer: W) -> Sink<W> {
         Sink {
             writer,
             failure: None,
@@ -17,13 +17,13 @@ impl<W: Write> Sink<W> {
     }
 
     // The first n bytes, to the writer.
-    pub fn print(&mut self, bytes: &[u8], n: usize) {
+    pub(crate) fn print(&mut self, bytes: &[u8], n: usize) {
         if n <= bytes.len() && self.failure.is_none() {
             self.failure = self.writer.write_all(&bytes[0..n]).err();
         }
     }
 
-    pub fn has_failed(&self) -> bool {
+    pub(crate) fn has_failed(&self) -> bool {
         self.failure.is_some()
     }
 }
@@ -33,7 +33,7 @@ const BROKEN_PIPE: u8 = 141;
 
 impl<W: Write + Drop> Sink<W> {
     // How the program ends.
-    pub fn end(self) -> io::Result<ExitCode> {
+    pub(crate) fn end(self) -> io::Result<ExitCode> {
         let Sink { writer: _, failure } = self;
         let Some(error) = failure else {
             return Ok(ExitCode::SUCCESS);
