@@ -1,38 +1,27 @@
 -- All words of a run joined bit by bit: no word of the run is above it. Assumes nothing.
 use Rattle.std.specs.Prelude.{ℕ, ◌+◌, ◌≤◌, ◌<◌, ◌≡◌, true, List, leb, get_or}
 use Rattle.std.proofs.Common.{arith, le-leb}
-use Rattle.std.specs.Int.Bits.{bit_or, or_add_and}
-use Rattle.std.proofs.lemmas.Nat.{and_le_l, and_le_r}
+use Rattle.std.specs.Int.Bits.{bit_or}
+use Rattle.std.proofs.lemmas.Nat.{le_or_l, le_or_r}
 use Rattle.words.specs.Each.{all_below, true_all, same}
 use Rattle.rules.specs.Limits.{top_money}
-
--- a join is no less than what is joined
-pub join_left : (a b : ℕ) → a ≤ bit_or a b
-join_left a b = omega (arith, or_add_and a b, and_le_r a b)
-
-pub join_right : (a b : ℕ) → b ≤ bit_or a b
-join_right a b = omega (arith, or_add_and a b, and_le_l a b)
 
 -- the loop's fact: m is no less than each of the first n words from word k on
 unfoldable pub Above : List ℕ → ℕ → ℕ → ℕ → Type 0
 Above ws k n m = (j : ℕ) → j < n → get_or ws (k + j) 0 ≤ m
 
-pub above-none : (ws : List ℕ) (k : ℕ) → Above ws k 0 0
+pub above_none : (ws : List ℕ) (k : ℕ) → Above ws k 0 0
 unfolding Above
-above-none ws k j h = absurd (omega arith)
+above_none ws k j h = absurd (omega arith)
 
 pub above_turn : (ws : List ℕ) (k n m : ℕ) → Above ws k n m → Above ws k (n + 1) (bit_or m (get_or ws (k + n) 0))
 unfolding Above
 above_turn ws k n m a j h =
-    let l = join_left m (get_or ws (k + n) 0) in
-    let r = join_right m (get_or ws (k + n) 0) in
+    let l = le_or_l m (get_or ws (k + n) 0) in
+    let r = le_or_r m (get_or ws (k + n) 0) in
     same j n
     (λ q. rw q r)
     (λ q. let b = a j (omega arith) in omega arith)
-
-pub above_end : (ws : List ℕ) (k n p m : ℕ) → n ≤ p → p ≤ n → Above ws k n m → Above ws k p m
-unfolding Above
-above_end ws k n p m h l a j o = a j (omega arith)
 
 -- where the join is at most L, every word is
 pub above_ok : (ws : List ℕ) (k n m : ℕ) → Above ws k n m → m ≤ top_money → all_below n (λ j. leb (get_or ws (k + j) 0) top_money) ≡ true

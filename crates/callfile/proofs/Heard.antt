@@ -1,61 +1,93 @@
 -- What the functions that read a line answer, over plain values. Assumes nothing.
-use Prim.Native.Nat.{ℕ, ◌≤◌, ◌<◌}
-use mathlib.Core.Path.{◌≡◌, ap, sym, ◌∙◌}
-use mathlib.Core.Bool.{Bool, true, false, not, ◌&&◌}
-use mathlib.Core.List.{List}
-use borrow.Author.Tests.{le-leb, lt-leb, eq-eqb, ne_eqb, not-true, not-false}
-use lib.ListN.{length}
+use Prim.Native.Nat.{ℕ, zero, suc}
+use mathlib.Core.Path.{◌≡◌, refl}
+use mathlib.Core.Bool.{Bool, true, false, ◌&&◌}
+use mathlib.Core.List.{List, [], ◌∷◌}
+use native.Mathlib.Omega.{arith}
+use borrow.Author.Tests.{le-leb, eq-eqb, ne_eqb}
+use lib.Dec.{eqb}
+use lib.ListN.{length, get_or, drop}
+use Rattle.std.specs.List.{list_all}
 use Rattle.rules.specs.Codes.{call_of}
 use Rattle.rules.specs.declared.calls.Call.{Call}
+use Rattle.rules.specs.Tests.{pick}
+use Rattle.std.specs.Prelude.{Option, Some, None}
 use Rattle.columns.specs.Column.{plain_at}
-use Rattle.columns.specs.declared.reading.Plain.{Plain}
-use Rattle.callfile.specs.Lines.{coded, fields, used_or_zero, is_call, line_of, columns_formed, line_formed, call_from, malformed, read_line, line_bytes}
-use Rattle.callfile.specs.declared.words.Words.{Words}
-use Rattle.callfile.specs.declared.reading.Line.{Line}
+use Rattle.columns.specs.Reading.{Plain, formed_plain}
+use Rattle.callfile.specs.Lines.{coded, used_or_zero, is_call, line_of, columns_formed, line_formed, malformed, formed_call, read_line, line_bytes}
 
 -- ---- the words of a call
 
-module _ (w : Words) where
-  pub code_low : w.code < 1 → false ≡ is_call w
-  unfolding is_call
-  code_low h = rw (lt-leb 1 w.code h)
+and_true : (b : Bool) → (b && true) ≡ b
+and_true true = refl
+and_true false = refl
 
-  pub code_high : 1 ≤ w.code → 11 < w.code → false ≡ is_call w
-  unfolding is_call
-  code_high h l = rw (le-leb 1 w.code h, lt-leb w.code 11 l)
+-- a test of each of four fields
+pub all_four : (f : ℕ → Bool) (l : List ℕ) → length l ≡ 4
+    → list_all f l ≡ (f (get_or l 0 0) && (f (get_or l 1 0) && (f (get_or l 2 0) && f (get_or l 3 0))))
+all_four f [] h = absurd (omega arith)
+all_four f (a ∷ []) h = absurd (omega arith)
+all_four f (a ∷ b ∷ []) h = absurd (omega arith)
+all_four f (a ∷ b ∷ c ∷ []) h = absurd (omega arith)
+all_four f (a ∷ b ∷ c ∷ d ∷ []) h = rw (and_true (f d))
+all_four f (a ∷ b ∷ c ∷ d ∷ e ∷ l) h = absurd (omega arith)
 
-  pub code_given : (n : ℕ) (a b c d : Bool) → 1 ≤ w.code → w.code ≤ 11 → n ≡ fields w.code → a ≡ used_or_zero n 1 w.first → b ≡ used_or_zero n 2 w.second
-      → c ≡ used_or_zero n 3 w.third → d ≡ used_or_zero n 4 w.fourth → (a && (b && (c && d))) ≡ is_call w
-  unfolding is_call
-  code_given n a b c d h l e ea eb ec ed = rw (ea, eb, ec, ed, e, le-leb 1 w.code h, le-leb w.code 11 l)
+-- "unused fields are 0", of a call with n fields
+pub unused : (n : ℕ) (l : List ℕ) → length l ≡ 4
+    → list_all (λ x. eqb x 0) (drop n l) ≡ (used_or_zero n 1 (get_or l 0 0) && (used_or_zero n 2 (get_or l 1 0) && (used_or_zero n 3 (get_or l 2 0) && used_or_zero n 4 (get_or l 3 0))))
+unused n [] h = absurd (omega arith)
+unused n (a ∷ []) h = absurd (omega arith)
+unused n (a ∷ b ∷ []) h = absurd (omega arith)
+unused n (a ∷ b ∷ c ∷ []) h = absurd (omega arith)
+unused zero (a ∷ b ∷ c ∷ d ∷ []) h = rw (and_true (eqb d 0))
+unused (suc zero) (a ∷ b ∷ c ∷ d ∷ []) h = rw (and_true (eqb d 0))
+unused (suc (suc zero)) (a ∷ b ∷ c ∷ d ∷ []) h = rw (and_true (eqb d 0))
+unused (suc (suc (suc zero))) (a ∷ b ∷ c ∷ d ∷ []) h = rw (and_true (eqb d 0))
+unused (suc (suc (suc (suc n)))) (a ∷ b ∷ c ∷ d ∷ []) h =
+    let m : ℕ = suc (suc (suc (suc n))) in
+    rw (le-leb 1 m (omega arith), le-leb 2 m (omega arith), le-leb 3 m (omega arith), le-leb 4 m (omega arith)) (drop_all n)
+  where
+    drop_all : (n : ℕ) → list_all (λ x. eqb x 0) (drop {A = ℕ} n []) ≡ true
+    drop_all zero = refl
+    drop_all (suc n) = refl
+unused n (a ∷ b ∷ c ∷ d ∷ e ∷ l) h = absurd (omega arith)
 
 -- ---- a line
 
-pub line_long : (t : List ℕ) (r : Line) → (length t ≡ line_bytes → ⊥) → r ≡ malformed → r ≡ read_line t
+pub line_long : (t : List ℕ) → (length t ≡ line_bytes → ⊥) → None ≡ formed_call (read_line t)
 unfolding read_line line_formed
-line_long t r h e = rw (ne_eqb (length t) line_bytes h) e
+line_long t h = rw (ne_eqb (length t) line_bytes h)
 
--- its five columns, as they were read
-module _ (t : List ℕ) (p₀ p₁ p₂ p₃ p₄ : Plain) (w : Words) (k : Bool) (l : length t ≡ line_bytes)
-    (e₀ : p₀ ≡ plain_at t 0 2) (e₁ : p₁ ≡ plain_at t 2 9) (e₂ : p₂ ≡ plain_at t 11 9) (e₃ : p₃ ≡ plain_at t 20 9) (e₄ : p₄ ≡ plain_at t 29 9)
-    (ew : w ≡ coded p₀.number p₁.number p₂.number p₃.number p₄.number) (ek : k ≡ is_call w) where
-  words-read : w ≡ line_of t
-  unfolding line_of
-  words-read = ew ∙ rw (e₀, e₁, e₂, e₃, e₄)
+-- what a line of five columns says, column by column
+abbrev pub said : Option ℕ → Option ℕ → Option ℕ → Option ℕ → Option ℕ → Option Call
+said None q₁ q₂ q₃ q₄ = None
+said (Some code) None q₂ q₃ q₄ = None
+said (Some code) (Some a) None q₃ q₄ = None
+said (Some code) (Some a) (Some b) None q₄ = None
+said (Some code) (Some a) (Some b) (Some c) None = None
+said (Some code) (Some a) (Some b) (Some c) (Some d) = pick (is_call (coded code a b c d)) (Some (call_of code a b c d)) None
 
-  formed-read : ((p₀.formed && (p₁.formed && (p₂.formed && (p₃.formed && p₄.formed)))) && k) ≡ line_formed t
-  unfolding line_formed columns_formed
-  formed-read = rw (ek, words-read, e₀, e₁, e₂, e₃, e₄, eq-eqb (length t) line_bytes l)
+abbrev some_if : Bool → ℕ → Option ℕ
+some_if formed number = pick formed (Some number) None
 
-  pub line-bad : (r : Line) → not ((p₀.formed && (p₁.formed && (p₂.formed && (p₃.formed && p₄.formed)))) && k) ≡ true → r ≡ malformed → r ≡ read_line t
-  unfolding read_line
-  line-bad r h e =
-      let f : line_formed t ≡ false = sym formed-read ∙ not-true ((p₀.formed && (p₁.formed && (p₂.formed && (p₃.formed && p₄.formed)))) && k) h in
-      rw f e
+said_columns : (f₀ f₁ f₂ f₃ f₄ : Bool) (code a b c d : ℕ)
+    → formed_call (pick ((f₀ && (f₁ && (f₂ && (f₃ && f₄)))) && is_call (coded code a b c d)) (record { formed = true; call = call_of code a b c d }) malformed)
+    ≡ said (some_if f₀ code) (some_if f₁ a) (some_if f₂ b) (some_if f₃ c) (some_if f₄ d)
+said_columns false f₁ f₂ f₃ f₄ code a b c d = refl
+said_columns true false f₂ f₃ f₄ code a b c d = refl
+said_columns true true false f₃ f₄ code a b c d = refl
+said_columns true true true false f₄ code a b c d = refl
+said_columns true true true true false code a b c d = refl
+said_columns true true true true true code a b c d = go (is_call (coded code a b c d))
+  where
+    go : (k : Bool) → formed_call (pick k (record { formed = true; call = call_of code a b c d }) malformed) ≡ pick k (Some (call_of code a b c d)) None
+    go true = refl
+    go false = refl
 
-  pub line-good : (c : Call) → not ((p₀.formed && (p₁.formed && (p₂.formed && (p₃.formed && p₄.formed)))) && k) ≡ false
-      → c ≡ call_of w.code w.first w.second w.third w.fourth → ◌≡◌ {A = Line} (record { formed = true; call = c }) (read_line t)
-  unfolding read_line
-  line-good c h e =
-      let f : line_formed t ≡ true = sym formed-read ∙ not-false ((p₀.formed && (p₁.formed && (p₂.formed && (p₃.formed && p₄.formed)))) && k) h in
-      rw (f, e ∙ ap call_from words-read)
+pub said_is : (t : List ℕ) → length t ≡ line_bytes → formed_call (read_line t)
+    ≡ said (formed_plain (plain_at t 0 2)) (formed_plain (plain_at t 2 9)) (formed_plain (plain_at t 11 9)) (formed_plain (plain_at t 20 9)) (formed_plain (plain_at t 29 9))
+unfolding read_line line_formed columns_formed line_of
+said_is t l =
+    let p : ℕ → ℕ → Plain = plain_at t in
+    rw (eq-eqb (length t) line_bytes l)
+    (said_columns (p 0 2).formed (p 2 9).formed (p 11 9).formed (p 20 9).formed (p 29 9).formed (p 0 2).number (p 2 9).number (p 11 9).number (p 20 9).number (p 29 9).number)

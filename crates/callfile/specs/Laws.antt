@@ -12,9 +12,7 @@ use Rattle.columns.specs.Column.{column, fits, plain_at, part}
 use Rattle.columns.specs.Laws.{length_marked}
 use Rattle.columns.specs.Pastes.{plain_at_only}
 use Rattle.columns.proofs.Pastes.{plain_at_back}
-use Rattle.callfile.specs.Lines.{coded, words_of, line_text, call_text, answer_text, words_fit, call_fits, fields, used_or_zero, is_call, line_of, columns_formed, line_formed, call_from, malformed, read_line, call_bytes, line_bytes}
-use Rattle.callfile.specs.declared.words.Words.{Words}
-use Rattle.callfile.specs.declared.reading.Line.{Line}
+use Rattle.callfile.specs.Lines.{Words, Line, coded, words_of, line_text, call_text, answer_text, words_fit, call_fits, fields, used_or_zero, is_call, line_of, columns_formed, line_formed, call_from, malformed, read_line, call_bytes, line_bytes}
 
 -- ---- lengths
 

@@ -1,6 +1,6 @@
 -- "A call line is the code, 1 to 11, in 2 columns, four fields of 9, line feed; unused fields are 0. Any other line is malformed." What is written
 -- for a call and for an answer, what is read from a line (given without its line feed), and every byte of a buffer after a put. (Lines and columns)
-use Rattle.std.specs.Prelude.{ℕ, Bool, true, false, ◌&&◌, ◌||◌, List, [], ◌∷◌, ◌++◌, eqb, leb, length, get_or}
+use Rattle.std.specs.Prelude.{ℕ, Bool, true, false, ◌&&◌, ◌||◌, List, [], ◌∷◌, ◌++◌, eqb, leb, length, get_or, Option, Some, None}
 use Rattle.std.proofs.Math.Seq.{paste}
 use Rattle.rules.specs.Tests.{pick, within}
 use Rattle.rules.specs.Codes.{call_of}
@@ -8,11 +8,22 @@ use Rattle.rules.specs.declared.calls.Call.{Call}
 use Rattle.rules.specs.declared.calls.Call.TheVariants.{Enrol, Attach, Detach, Regular, Raise, Withdraw, OwnQuota, Order, Fill, Cancel, Close}
 use Rattle.rules.specs.declared.calls.Answer.{Answer}
 use Rattle.columns.specs.Column.{column, fits, plain_at, holds}
-use Rattle.callfile.specs.declared.words.Words.{Words}
-use Rattle.callfile.specs.declared.reading.Line.{Line}
+use Rattle.callfile.specs.declared.words.Words as code
+
+-- a call as its code and four fields
+pub record Words : Type 0 where
+  pub code : ℕ
+  pub first : ℕ
+  pub second : ℕ
+  pub third : ℕ
+  pub fourth : ℕ
 
 abbrev pub coded : ℕ → ℕ → ℕ → ℕ → ℕ → Words
 coded code first second third fourth = record { code = code; first = first; second = second; third = third; fourth = fourth }
+
+-- the same of the code's words, whose fields are an array
+abbrev pub spelled : code.Words → Words
+spelled w = coded w.code (get_or w.fields 0 0) (get_or w.fields 1 0) (get_or w.fields 2 0) (get_or w.fields 3 0)
 
 -- "Codes, with fields": 1 enrol group (code, class) to 11 close (The eleven calls)
 unfoldable pub words_of : Call → Words
@@ -88,6 +99,15 @@ line_formed t = eqb (length t) line_bytes && (columns_formed t && is_call (line_
 
 abbrev pub call_from : Words → Call
 call_from w = call_of w.code w.first w.second w.third w.fourth
+
+-- what a line says; where it is not formed, the call is none of the eleven
+pub record Line : Type 0 where
+  pub formed : Bool
+  pub call : Call
+
+-- and what of it is told: the call, where the line is formed
+abbrev pub formed_call : Line → Option Call
+formed_call l = pick l.formed (Some l.call) None
 
 -- "Any other line is malformed." (Lines and columns)
 abbrev pub malformed : Line

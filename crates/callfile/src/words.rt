@@ -1,107 +1,76 @@
 // A call as five numbers: its code and four fields, of which those that it does not use are 0.
-ghost use Rattle.std.specs.Prelude.{◌≡◌, ◌≤◌};
-ghost use Rattle.callfile.specs.Lines.{coded as codedOf, words_of, fields as fields_of, used_or_zero, is_call, words_fit};
+ghost use Rattle.std.specs.Prelude.{◌≡◌};
+ghost use Rattle.callfile.specs.Lines.{spelled, words_of, is_call, words_fit};
 
 use columns_powers::fits;
 use rules::calls::Call;
 
+// Kept (no plainer): code and fields are the five columns of a line; the enum of the calls is `Call`.
 #[derive(Clone, Copy)]
 pub struct Words {
     pub code: u64,
-    pub first: u64,
-    pub second: u64,
-    pub third: u64,
-    pub fourth: u64,
-}
-
-pub fn coded(code: u64, first: u64, second: u64, third: u64, fourth: u64) -> Words
-    ensures { result ≡ codedOf code first second third fourth }
-{
-    Words {
-        code,
-        first,
-        second,
-        third,
-        fourth,
-    }
+    pub fields: [u64; 4],
 }
 
 // "Codes, with fields", in the paper's order. (The eleven calls)
+#[tactic(auto, unfolding(crate::specs::Lines::words_of))]
 pub fn words_of(call: Call) -> Words
-    ensures { result ≡ words_of call }
+    ensures { spelled result ≡ words_of call }
 {
-    match call {
-        Call::Enrol { code, class } => coded(1, code, class, 0, 0),
-        Call::Attach { unit, group } => coded(2, unit, group, 0, 0),
-        Call::Detach { unit } => coded(3, unit, 0, 0, 0),
+    let (code, fields) = match call {
+        Call::Enrol { code, class } => (1, [code, class, 0, 0]),
+        Call::Attach { unit, group } => (2, [unit, group, 0, 0]),
+        Call::Detach { unit } => (3, [unit, 0, 0, 0]),
         Call::Regular {
             declarer,
             group,
             base,
             quota,
-        } => coded(4, declarer, group, base.0, quota.0),
+        } => (4, [declarer, group, base.0, quota.0]),
         Call::Raise {
             declarer,
             group,
             quota,
             flag,
-        } => coded(5, declarer, group, quota.0, flag),
-        Call::Withdraw { declarer, group } => coded(6, declarer, group, 0, 0),
-        Call::OwnQuota { group, quota } => coded(7, group, quota.0, 0, 0),
+        } => (5, [declarer, group, quota.0, flag]),
+        Call::Withdraw { declarer, group } => (6, [declarer, group, 0, 0]),
+        Call::OwnQuota { group, quota } => (7, [group, quota.0, 0, 0]),
         Call::Order {
             unit,
             kind,
             price,
             quantity,
-        } => coded(8, unit, kind, price.0, quantity),
+        } => (8, [unit, kind, price.0, quantity]),
         Call::Fill {
             order,
             price,
             quantity,
-        } => coded(9, order, price.0, quantity, 0),
-        Call::Cancel { order } => coded(10, order, 0, 0, 0),
-        Call::Close => coded(11, 0, 0, 0, 0),
-    }
+        } => (9, [order, price.0, quantity, 0]),
+        Call::Cancel { order } => (10, [order, 0, 0, 0]),
+        Call::Close => (11, [0, 0, 0, 0]),
+    };
+    Words { code, fields }
 }
 
 // How many fields each call has, by its code.
-const FIELDS: [u64; 12] = [0, 2, 2, 1, 4, 4, 2, 2, 4, 3, 1, 0];
-
-fn fields(code: u64) -> u64
-    requires { code ≤ 11 }
-    ensures { result ≡ fields_of code }
-{
-    let i = code as usize;
-    FIELDS[i]
-}
-
-// Field i, counted from 1, of a call with n fields.
-fn used_or_zero(n: u64, i: u64, x: u64) -> bool
-    ensures { result ≡ used_or_zero n i x }
-{
-    (i <= n) | (x == 0)
-}
+const FIELDS: [usize; 12] = [0, 2, 2, 1, 4, 4, 2, 2, 4, 3, 1, 0];
 
 // "the code, 1 to 11, .. unused fields are 0" (Lines and columns)
+#[tactic(auto, unfolding(crate::specs::Lines::is_call, crate::specs::Lines::fields))]
 pub fn is_call(w: Words) -> bool
-    ensures { result ≡ is_call w }
+    ensures { result ≡ is_call (spelled w) }
 {
-    if w.code < 1 {
+    if w.code < 1 || 11 < w.code {
         return false;
     }
-    if 11 < w.code {
-        return false;
-    }
-    let n = fields(w.code);
-    used_or_zero(n, 1, w.first)
-        & (used_or_zero(n, 2, w.second)
-            & (used_or_zero(n, 3, w.third) & used_or_zero(n, 4, w.fourth)))
+    let used = FIELDS[w.code as usize];
+    w.fields.iter().skip(used).all(|field| *field == 0)
 }
 
 // Whether the code fits in 2 columns, and each field in 9.
+#[tactic(auto, unfolding(crate::specs::Lines::words_fit))]
 pub fn words_fit(w: Words) -> bool
-    ensures { result ≡ words_fit w }
+    ensures { result ≡ words_fit (spelled w) }
 {
-    fits(2, w.code)
-        & (fits(9, w.first) & (fits(9, w.second) & (fits(9, w.third) & fits(9, w.fourth))))
+    fits(2, w.code) && w.fields.iter().all(|field| fits(9, *field))
 }

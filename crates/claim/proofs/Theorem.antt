@@ -1,7 +1,7 @@
 -- The proof of the third demand: `demand`, over specs/Theorem.antt. Assumes nothing.
 -- Here, and not in specs/, so that a wrong definition is refused by the first theorem that it breaks, and not by those that rest on it.
 use Prim.Native.Nat.{ℕ, zero, suc, ◌+◌, ◌*◌, ◌<◌}
-use Rattle.std.specs.Prelude.{◌≡◌, Bool, ◌&&◌, ◌≢◌, ◌↔◌, eqb, ℤ, pos, length}
+use Rattle.std.specs.Prelude.{◌≡◌, Bool, ◌&&◌, ◌≢◌, ◌↔◌, eqb, ℤ, pos, length, Some, None}
 use Rattle.std.proofs.Math.Path.{refl, sym, ap}
 use Rattle.std.proofs.Common.{◌∙◌}
 use Rattle.std.proofs.Math.Bool.{true, false, not}
@@ -14,18 +14,15 @@ use Rattle.std.proofs.lemmas.List.{length-replicate}
 use Rattle.rules.specs.Tests.{pick, both, within_true}
 use Rattle.rules.specs.Sums.{when, sum_over}
 use Rattle.rules.specs.Limits.{is_places}
-use Rattle.rules.specs.Money.{mils_of, amount}
+use Rattle.rules.specs.Money.{mils_of, amount, Limit}
 use Rattle.rules.specs.Orders.{Rule, shanghai, stops, is_buy, net_of, below_pos}
 use Rattle.rules.specs.Calls.{in_range, accepted, refused}
 use Rattle.rules.specs.Refusals.{unsound_number, refusal, unless_refused}
 use Rattle.rules.specs.Lists.{order_rules}
 use Rattle.rules.specs.Laws.{clear, order_rises}
-use Rattle.rules.specs.Loads.{loaded}
-use Rattle.rules.specs.declared.loads.RatioFile.{RatioFile}
+use Rattle.rules.specs.Loads.{loaded, FileRead}
 use Rattle.rules.specs.declared.money.Millions.{Millions}
 use Rattle.rules.specs.declared.money.Mils.{Mils}
-use Rattle.rules.specs.declared.quotas.Limit.{Limit}
-use Rattle.rules.specs.declared.quotas.Limit.TheVariants.{Nothing, At}
 use Rattle.rules.specs.declared.kinds.Money.{Money}
 use Rattle.rules.specs.declared.calls.Call.{Call}
 use Rattle.rules.specs.declared.calls.Call.TheVariants.{Enrol, Attach, Detach, Regular, Raise, Withdraw, OwnQuota, Order, Fill, Cancel, Close}
@@ -240,7 +237,7 @@ module _ (N : ℕ) (rule : Rule) (h : History) (m : Memory) (s : Sim N h m) wher
   steps Close = close_steps
 
 module _ (N : ℕ) (rule : Rule) (h : History) (m : Memory) (s : Sim N h m) where
-  loaded_sim : (f : RatioFile) (r : ℕ) → quota.load_refusal m.register f ≡ r → Sim N (unless_refused r (with_table h (loaded f)) h) (memory (quota.load_after m.register f) m.book m.places)
+  loaded_sim : (f : FileRead) (r : ℕ) → quota.load_refusal m.register f ≡ r → Sim N (unless_refused r (with_table h (loaded f)) h) (memory (quota.load_after m.register f) m.book m.places)
   loaded_sim f zero z =
       let k = quotas.load_kept h m.register s.quota f z in
       record {
@@ -348,14 +345,14 @@ entry_refusal_lem N rule h m s e = ap (λ (a : Answer). a.refusal) (entered N ru
 passing : (rule : Rule) (kind : ℕ) (own : Limit) (net : ℤ) (price : Mils) (quantity unit : ℕ) (money : Money) → is_buy kind ≡ true → in_range (Order unit kind price quantity) ≡ true → net_of money ≡ net
     → (refusal (order_rules rule unit kind price quantity (record { attached = true; own = own; money = money; full = false })) ≡ 0) ↔ Passes rule own net (amount price quantity)
 unfolding order_rules stops
-passing rule kind Nothing net price quantity unit money b r n = (
+passing rule kind None net price quantity unit money b r n = (
   (λ z. absurd (omega (arith, fifteen z))),
   (λ z. let e = z.1 in let y : ◌≡◌ {A = ℕ} 0 1 = cc in absurd (omega arith)),
 )
   where
-    fifteen : refusal (order_rules rule unit kind price quantity (record { attached = true; own = Nothing; money = money; full = false })) ≡ 0 → ◌≡◌ {A = ℕ} 15 0
+    fifteen : refusal (order_rules rule unit kind price quantity (record { attached = true; own = None; money = money; full = false })) ≡ 0 → ◌≡◌ {A = ℕ} 15 0
     fifteen z = rw (r, b) at z
-passing rule kind (At o) net price quantity unit money b r n = (
+passing rule kind (Some o) net price quantity unit money b r n = (
   (λ z. (o, refl, pass (rw (r, b, n) at z))),
   (λ z. back z),
 )
@@ -367,7 +364,7 @@ passing rule kind (At o) net price quantity unit money b r n = (
         go true z = refl
         go false z = absurd (omega arith)
 
-    back : Passes rule (At o) net (amount price quantity) → refusal (order_rules rule unit kind price quantity (record { attached = true; own = At o; money = money; full = false })) ≡ 0
+    back : Passes rule (Some o) net (amount price quantity) → refusal (order_rules rule unit kind price quantity (record { attached = true; own = Some o; money = money; full = false })) ≡ 0
     back z =
         let e = z.1 in
         let k : o ≡ z.0 = cc in
@@ -398,7 +395,7 @@ demand_by rule N m s es =
 
 module _ (N : ℕ) (h : History) (unit kind : ℕ) (price : Mils) (quantity : ℕ) (b : is_buy kind ≡ true) where
   -- an accepted buy: net before it was below the own quota
-  buy_below : (own : Millions) → refusal_of N shanghai h (Order unit kind price quantity) ≡ 0 → own_of h unit ≡ At own → lt_z (net_in h (group_of h unit)) (pos (mils_of own).0) ≡ true
+  buy_below : (own : Millions) → refusal_of N shanghai h (Order unit kind price quantity) ≡ 0 → own_of h unit ≡ Some own → lt_z (net_in h (group_of h unit)) (pos (mils_of own).0) ≡ true
   unfolding refusals order_rules stops shanghai
   buy_below own e k =
       let c = clear 1 (order_rules shanghai unit kind price quantity (order_reads N h unit)) (order_rises shanghai unit kind price quantity (order_reads N h unit)) e in
@@ -406,7 +403,7 @@ module _ (N : ℕ) (h : History) (unit kind : ℕ) (price : Mils) (quantity : �
       not-false (lt_z (net_in h (group_of h unit)) (pos (mils_of own).0)) f
 
   -- and after it below the own quota and the order's amount
-  buy_crosses : (own : Millions) → refusal_of N shanghai h (Order unit kind price quantity) ≡ 0 → own_of h unit ≡ At own
+  buy_crosses : (own : Millions) → refusal_of N shanghai h (Order unit kind price quantity) ≡ 0 → own_of h unit ≡ Some own
       → lt_z (net_in (accept h (Order unit kind price quantity)) (group_of h unit)) (pos ((mils_of own).0 + (amount price quantity).0)) ≡ true
   unfolding accept net_of when
   buy_crosses own e k =

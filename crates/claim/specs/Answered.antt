@@ -20,9 +20,8 @@ use Rattle.register.specs.Check.{record_ok, register_ok}
 use Rattle.quota.specs.Asks.{is_sound, groups_enrolled}
 use Rattle.quota.specs.Groups.{declared_group, raised_group, filed_group, own_group, closed_group}
 use Rattle.quota.specs.Calls.{enrol_refusal, enrol_answer, enrol_after, attach_refusal, attach_after, detach_refusal, detach_after, regular_refusal, regular_after, raise_refusal, raise_after, withdraw_refusal, withdraw_after, own_quota_refusal, own_quota_after, closed_at, closed_below, close_refusal, close_after, load_refusal, load_after}
-use Rattle.rules.specs.Loads.{load_rules}
+use Rattle.rules.specs.Loads.{load_rules, FileRead}
 use Rattle.rules.specs.declared.loads.RatioLine.{RatioLine}
-use Rattle.rules.specs.declared.loads.RatioFile.{RatioFile}
 use Rattle.history.specs.Runs.{Loaded}
 use Rattle.book.specs.Layout.{money_base, place_base, put_accepted, money_at, put_money, place_at, put_place, put_open, book_length}
 use Rattle.book.specs.Check.{book_ok, place_ok}
@@ -133,13 +132,13 @@ Opens r b p n = open_refusal (memory (replicate r 7) (replicate b 7) (replicate 
 abbrev ratio_line : ℕ → ℕ → RatioLine
 ratio_line class numerator = record { class = class; numerator = numerator; denominator = 1 }
 
-abbrev good : RatioFile
+abbrev good : FileRead
 good = record { formed = true; first = ratio_line 1 7; second = ratio_line 3 7; third = ratio_line 4 7 }
 
-abbrev bad : RatioFile
+abbrev bad : FileRead
 bad = record { formed = true; first = ratio_line 1 7; second = ratio_line 3 7; third = ratio_line 4 101 }
 
-abbrev loaded_into : List ℕ → List ℕ → RatioFile → ℕ
+abbrev loaded_into : List ℕ → List ℕ → FileRead → ℕ
 loaded_into rs bs f = (step_entry shanghai (memory rs bs places) (Loaded f)).answer.refusal
 
 pub record Answered : Type 0 where

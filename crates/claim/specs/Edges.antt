@@ -1,11 +1,9 @@
 -- "Edges to prove (E1 to E8)", proved together: a list of cases, and one theorem over it, `edges_hold` of proofs/Edges.antt, about the gate opened over lent
 -- memory of any content with N = 4. Each case is carried over from the history by the third demand, and computed there.
-use Rattle.std.specs.Prelude.{ℕ, ◌≡◌, refl, List, [], ◌∷◌, ◌++◌, ℤ, pos, negsuc, replicate}
-use Rattle.rules.specs.Money.{mils, millions}
+use Rattle.std.specs.Prelude.{ℕ, ◌≡◌, refl, List, [], ◌∷◌, ◌++◌, ℤ, pos, negsuc, replicate, Some}
+use Rattle.rules.specs.Money.{mils, millions, Limit}
 use Rattle.rules.specs.Orders.{net_of, shanghai}
 use Rattle.rules.specs.Calls.{accepted, refused}
-use Rattle.rules.specs.declared.quotas.Limit.{Limit}
-use Rattle.rules.specs.declared.quotas.Limit.TheVariants.{At}
 use Rattle.rules.specs.declared.kinds.Money.{Money}
 use Rattle.rules.specs.declared.calls.Call.{Call}
 use Rattle.rules.specs.declared.calls.Call.TheVariants.{Enrol, Attach, Regular, Raise, OwnQuota, Order, Fill, Close}
@@ -83,35 +81,35 @@ edges =
     ∷ Answered (declaring 7) (accepted 0 ∷ refused 8 ∷ [])
     -- E2: "figures summing to 100,000 give 100,000; to 100,001 give 100,000" (Edges to prove)
     ∷ Answered (summing 60_000 40_000) (accepted 0 ∷ accepted 0 ∷ accepted 0 ∷ accepted 0 ∷ [])
-    ∷ MaximumIs (summing 60_000 40_000) 0 (At (millions 100_000))
+    ∷ MaximumIs (summing 60_000 40_000) 0 (Some (millions 100_000))
     ∷ Answered (summing 60_000 40_001) (accepted 0 ∷ accepted 0 ∷ accepted 0 ∷ accepted 0 ∷ [])
-    ∷ MaximumIs (summing 60_000 40_001) 0 (At (millions 100_000))
+    ∷ MaximumIs (summing 60_000 40_001) 0 (Some (millions 100_000))
     -- E3: "maximum 99,999, emergency 100,000: flag 0 passes, flag 1 gets 13" (Edges to prove)
-    ∷ MaximumIs below 0 (At (millions 99_999))
+    ∷ MaximumIs below 0 (Some (millions 99_999))
     ∷ Answered (raising 100_000 0) (accepted 0 ∷ accepted 0 ∷ accepted 0 ∷ accepted 0 ∷ [])
     ∷ Answered (raising 100_000 1) (accepted 0 ∷ accepted 0 ∷ accepted 0 ∷ refused 13 ∷ [])
     -- E4: "same maximum, emergency 100,001, flag 0: 13" (Edges to prove)
     ∷ Answered (raising 100_001 0) (accepted 0 ∷ accepted 0 ∷ accepted 0 ∷ refused 13 ∷ [])
     -- E5: "own 5: net 4,999,999,999 lets a buy in, 5,000,000,000 gets 16" (Edges to prove)
-    ∷ OwnIs bought 0 (At (millions 5))
+    ∷ OwnIs bought 0 (Some (millions 5))
     ∷ NetIs bought 0 (pos 4_999_999_999)
     ∷ Answered bought_all (accepted 0 ∷ accepted 0 ∷ accepted 0 ∷ accepted 0 ∷ accepted 0 ∷ accepted 1 ∷ accepted 2 ∷ accepted 3 ∷ [])
-    ∷ OwnIs bought_all 0 (At (millions 5))
+    ∷ OwnIs bought_all 0 (Some (millions 5))
     ∷ NetIs bought_all 0 (pos 5_000_000_000)
     ∷ Answered (bought_all ++ (Order 20_001 1 (mils 1) 1 ∷ [])) (accepted 0 ∷ accepted 0 ∷ accepted 0 ∷ accepted 0 ∷ accepted 0 ∷ accepted 1 ∷ accepted 2 ∷ accepted 3 ∷ refused 16 ∷ [])
     -- E6: "own 0: net 0 gets 16, net −1 passes" (Edges to prove)
-    ∷ OwnIs (morning 0) 0 (At (millions 0))
+    ∷ OwnIs (morning 0) 0 (Some (millions 0))
     ∷ NetIs (morning 0) 0 (pos 0)
     ∷ Answered (morning 0 ++ (Order 20_001 1 (mils 1) 1 ∷ [])) (accepted 0 ∷ accepted 0 ∷ accepted 0 ∷ accepted 0 ∷ accepted 0 ∷ refused 16 ∷ [])
-    ∷ OwnIs sold 0 (At (millions 0))
+    ∷ OwnIs sold 0 (Some (millions 0))
     ∷ NetIs sold 0 (negsuc 0)
     ∷ Answered (sold ++ (Order 20_001 1 (mils 1) 1 ∷ [])) (accepted 0 ∷ accepted 0 ∷ accepted 0 ∷ accepted 0 ∷ accepted 0 ∷ accepted 1 ∷ accepted 0 ∷ accepted 2 ∷ [])
     -- E7: "own 5, closes bring maximum 4, then 9: own stays 4" (Edges to prove)
     ∷ Answered risen (accepted 0 ∷ accepted 0 ∷ accepted 0 ∷ accepted 0 ∷ accepted 0 ∷ accepted 0 ∷ accepted 0 ∷ accepted 0 ∷ [])
-    ∷ MaximumIs lowered 0 (At (millions 4))
-    ∷ OwnIs lowered 0 (At (millions 4))
-    ∷ MaximumIs risen 0 (At (millions 9))
-    ∷ OwnIs risen 0 (At (millions 4))
+    ∷ MaximumIs lowered 0 (Some (millions 4))
+    ∷ OwnIs lowered 0 (Some (millions 4))
+    ∷ MaximumIs risen 0 (Some (millions 9))
+    ∷ OwnIs risen 0 (Some (millions 4))
     -- E8: "lending 10 units adds 1,000,000 mils" (Edges to prove)
     ∷ MoneyIs (morning 5) 0 (record { «open» = mils 0; bought = mils 0; sold = mils 0 })
     ∷ Answered lending (accepted 0 ∷ accepted 0 ∷ accepted 0 ∷ accepted 0 ∷ accepted 0 ∷ accepted 1 ∷ [])

@@ -36,7 +36,7 @@ use Rattle.orders.specs.Host.{host_ok, is_given, named_ok}
 use Rattle.orders.specs.Booking as booked
 use Rattle.orders.specs.Calls as calls
 use Rattle.orders.specs.Clear.{host_known, order_clear, fill_clear, cancel_clear}
-use Rattle.orders.specs.declared.booking.Booked.{Booked}
+use Rattle.orders.specs.Booking.{Booked}
 use Rattle.claim.specs.Relation.{place_of, OrderKnown, OrderSim}
 use Rattle.claim.specs.OrderSums.{sum_over_bound, AllKnown, money-fits, known_fresh, known_filled, known_cancelled, known_among, all_append, all_set, open_part, filled_more, cancelled-same, more_here, more_else, moved_here, moved_else}
 

@@ -15,7 +15,7 @@ use Rattle.rules.specs.declared.calls.Answer.{Answer}
 use Rattle.quota.specs.Asks.{group_of_unit}
 use Rattle.quota.specs.Calls.{attach_refusal, attach_after, detach_refusal, detach_after, regular_refusal, regular_after, raise_refusal, raise_after, withdraw_refusal, withdraw_after, own_quota_refusal, own_quota_after, close_refusal, load_refusal, load_after}
 use Rattle.history.specs.Runs.{Entry, Loaded}
-use Rattle.rules.specs.declared.loads.RatioFile.{RatioFile}
+use Rattle.rules.specs.Loads.{FileRead}
 use Rattle.book.specs.declared.places.Place.{Place}
 use Rattle.book.specs.Layout.{accepted_of, place_base, place_at, put_place, put_open, place_words}
 use Rattle.book.specs.Laws.{length-put-place, place_word_lem, length-put_open, open_word}
@@ -161,7 +161,7 @@ places_kept rule m (Cancel order) =
 places_kept rule m Close = all_kept (close_kept m)
 
 -- a load writes the register alone
-pub load_keeps : (rule : Rule) (m : Memory) (f : RatioFile) → ((step_entry rule m (Loaded f)).memory.book ≡ m.book) × ((step_entry rule m (Loaded f)).memory.places ≡ m.places)
+pub load_keeps : (rule : Rule) (m : Memory) (f : FileRead) → ((step_entry rule m (Loaded f)).memory.book ≡ m.book) × ((step_entry rule m (Loaded f)).memory.places ≡ m.places)
 unfolding step_entry
 load_keeps rule m f = (split (book_sound m) (λ e. rw e) (λ e. rw e), quota_kept m (answered (load_refusal m.register f)) (load_after m.register f))
 

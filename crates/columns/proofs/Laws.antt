@@ -46,7 +46,7 @@ has_minus (suc k) n e = go (has_minus k n) (blank n k) refl
         let s : suc k - 1 ≡ k = omega arith in
         rw (byte_mark 45 n (suc k) e (ap (λ (m : ℕ). blank n m) s ∙ f)) refl
 
-dash-minus : (w : ℕ) → 1 ≤ w → minus (dashed w) ≡ true
+pub dash-minus : (w : ℕ) → 1 ≤ w → minus (dashed w) ≡ true
 unfolding minus dashed
 dash-minus zero h = absurd (omega arith)
 dash-minus (suc zero) h = refl

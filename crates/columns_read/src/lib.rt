@@ -1,175 +1,99 @@
 // Numbers read from columns of a text: plain, optional and signed.
 #![tactic(auto)]
 
-ghost use Rattle.std.specs.Prelude.{◌≡◌, not, ◌||◌, ◌+◌, ◌≤◌, eqb, leb, length, get_or};
-ghost use Rattle.columns.specs.Column.{dashed, number, same, minus, part, read_plain, plain_at, optional_at, signed_at};
-ghost use Rattle.columns.specs.Scan.{blanks, is_digit, all_digits};
+ghost use Rattle.std.specs.Prelude.{◌≡◌, ◌&&◌, ◌≤◌, leb, length};
+ghost use Rattle.std.specs.Bool.{then_some};
+ghost use Rattle.columns.specs.Column.{dashed, number, same, minus, read_plain, plain_at, optional_at, signed_at};
+ghost use Rattle.columns.specs.Reading.{formed_plain, formed_optional, formed_signed};
+ghost use Rattle.columns.specs.Scan.{blanks, all_digits};
 
-use columns::bytes::holds;
-use columns::reading::{Optional, Plain, Signed};
-use columns_write::tabled::{digit, digits_in, marked_in};
+use columns::bytes::column_at;
+use columns::reading::Signed;
+use columns_write::tabled::{digits_in, marked_in};
 use columns_write::written::mark_of;
 
-// Whether a minus stands in the w bytes from at on.
-fn minus_at(text: &[u8], at: usize, w: usize) -> bool
-    requires { at + w ≤ length text.now }
-    ensures { result ≡ minus (part text.now at w) }
+// How many blanks stand in front.
+fn blanks(column: &[u8]) -> usize
+    ensures { (result ≡ blanks column.now) × (result ≤ length column.now) }
 {
-    let mut i: usize = 0;
-    while i < w {
-        if text[at + i] == b'-' {
-            return true;
-        }
-        i += 1;
-    }
-    false
+    column
+        .iter()
+        .position(|b| *b != b' ')
+        .unwrap_or(column.len())
 }
 
-// How many blanks stand in front in the w bytes from at on.
-fn blanks_at(text: &[u8], at: usize, w: usize) -> usize
-    requires { at + w ≤ length text.now }
-    ensures { (result ≡ blanks (part text.now at w)) × (result ≤ w) }
+// The number that digits make, where all bytes are digits.
+#[tactic(auto, using(columns::proofs::Steps::run_steps))]
+fn run_of_digits(digits: &[u8]) -> Option<u64>
+    requires { length digits.now ≤ 19 }
+    ensures { result ≡ then_some (all_digits digits.now) (number digits.now) }
 {
-    let mut i: usize = 0;
-    while i < w {
-        if text[at + i] != b' ' {
-            return i;
-        }
-        i += 1;
-    }
-    i
-}
-
-fn is_digit(b: u8) -> bool
-    ensures { result ≡ is_digit b }
-{
-    (b'0' <= b) & (b <= b'9')
-}
-
-// The number that the digits of the w bytes from at on make, formed where all of them are digits.
-fn run_of_digits(text: &[u8], at: usize, w: usize) -> Plain
-    requires { (at + w ≤ length text.now) × (w ≤ 19) }
-    ensures { (result.formed ≡ all_digits (part text.now at w)) × (result.number ≡ number (part text.now at w)) }
-{
-    let mut formed = true;
     let mut number = 0;
-    let mut i: usize = 0;
-    while i < w {
-        let b = text[at + i];
-        formed = formed & is_digit(b);
-        number = number * 10 + digit(b);
-        i += 1;
-    }
-    Plain { formed, number }
-}
-
-// "no leading zeros", of n digits from at on. (Lines and columns)
-fn leads_well(text: &[u8], at: usize, n: usize) -> bool
-    requires { at + n ≤ length text.now }
-    ensures { result ≡ (leb n 1 || not (eqb (get_or text.now at 0) 48)) }
-{
-    if n <= 1 {
-        return true;
-    }
-    !(text[at] == b'0')
-}
-
-// The number in the w columns from at on, where the text holds them: blanks, and then digits, nineteen at most.
-fn read_plain(text: &[u8], at: usize, w: usize) -> Plain
-    requires { at + w ≤ length text.now }
-    ensures { result ≡ read_plain (part text.now at w) }
-{
-    let k = blanks_at(text, at, w);
-    let n = w - k;
-    if 19 < n {
-        let number = digits_in(text, at, w);
-        return Plain {
-            formed: false,
-            number,
-        };
-    }
-    let run = run_of_digits(text, at + k, n);
-    let leads = leads_well(text, at + k, n);
-    let formed = (1 <= n) & (leads & run.formed);
-    Plain {
-        formed,
-        number: run.number,
-    }
-}
-
-// Whether the w bytes from at on are "-".
-fn is_dash(text: &[u8], at: usize, w: usize) -> bool
-    requires { at + w ≤ length text.now }
-    ensures { result ≡ same (part text.now at w) (dashed w) }
-{
-    let mut i: usize = 0;
-    while i < w {
-        if text[at + i] != mark_of(i + 1 == w) {
-            return false;
+    for &b in digits {
+        if !b.is_ascii_digit() {
+            return None;
         }
-        i += 1;
+        number = number * 10 + u64::from(b - b'0');
     }
-    true
+    Some(number)
+}
+
+// Blanks, and then digits, nineteen at most, "no leading zeros". (Lines and columns)
+#[tactic(auto, using(columns::proofs::Answers::plain_columns))]
+fn read_plain(column: &[u8]) -> Option<u64>
+    ensures { result ≡ formed_plain (read_plain column.now) }
+{
+    let digits = &column[blanks(column)..];
+    let n = digits.len();
+    if n < 1 || 19 < n {
+        return None;
+    }
+    if 1 < n && digits[0] == b'0' {
+        return None;
+    }
+    run_of_digits(digits)
+}
+
+// Whether a column is "-".
+fn is_dash(column: &[u8]) -> bool
+    ensures { result ≡ (leb 1 (length column.now) && same column.now (dashed (length column.now))) }
+{
+    match column.split_last() {
+        Some((last, blanks)) => blanks.iter().all(|b| *b == b' ') && *last == b'-',
+        None => false,
+    }
 }
 
 // The number in the w columns from at on.
-pub fn plain_at(text: &[u8], at: usize, w: usize) -> Plain
-    ensures { result ≡ plain_at text.now at w }
+// Kept (no plainer): a text, a place and a width here and in the two below: each caller reads three to eight columns of one line.
+#[tactic(auto, using(columns::proofs::Answers::plain_short, columns::proofs::Answers::plain_known))]
+pub fn plain_at(text: &[u8], at: usize, w: usize) -> Option<u64>
+    ensures { result ≡ formed_plain (plain_at text.now at w) }
 {
-    if !holds(text.len(), at, w) {
-        return Plain {
-            formed: false,
-            number: 0,
-        };
-    }
-    read_plain(text, at, w)
+    read_plain(column_at(text, at, w)?)
 }
 
 // The number, or that it is missing.
-pub fn optional_at(text: &[u8], at: usize, w: usize) -> Optional
-    ensures { result ≡ optional_at text.now at w }
+#[tactic(auto, using(columns::proofs::Answers::optional_short, columns::proofs::Answers::dash_known, columns::proofs::Answers::other_known))]
+pub fn optional_at(text: &[u8], at: usize, w: usize) -> Option<Option<u64>>
+    ensures { result ≡ formed_optional (optional_at text.now at w) }
 {
-    if !holds(text.len(), at, w) {
-        return Optional {
-            formed: false,
-            present: false,
-            number: 0,
-        };
+    let column = column_at(text, at, w)?;
+    if is_dash(column) {
+        return Some(None);
     }
-    if minus_at(text, at, w) {
-        let formed = is_dash(text, at, w);
-        return Optional {
-            formed,
-            present: false,
-            number: 0,
-        };
-    }
-    let plain = read_plain(text, at, w);
-    Optional {
-        formed: plain.formed,
-        present: true,
-        number: plain.number,
-    }
+    Some(Some(read_plain(column)?))
 }
 
 // The number and its sign.
-pub fn signed_at(text: &[u8], at: usize, w: usize) -> Signed
-    ensures { result ≡ signed_at text.now at w }
+#[tactic(auto, using(columns::proofs::Answers::signed_short))]
+pub fn signed_at(text: &[u8], at: usize, w: usize) -> Option<Signed>
+    ensures { result ≡ formed_signed (signed_at text.now at w) }
 {
-    if !holds(text.len(), at, w) {
-        return Signed {
-            formed: false,
-            below: false,
-            size: 0,
-        };
-    }
-    let below = minus_at(text, at, w);
-    let size = digits_in(text, at, w);
-    let same = marked_in(text, at, w, mark_of(below), size);
-    let formed = (1 <= w) & (same & !(below & (size == 0)));
-    Signed {
-        formed,
-        below,
-        size,
-    }
+    let column = column_at(text, at, w)?;
+    let below = column.contains(&b'-');
+    let size = digits_in(column);
+    let same = marked_in(column, mark_of(below), size);
+    let formed = (1 <= column.len()) & (same & !(below & (size == 0)));
+    formed.then_some(Signed { below, size })
 }

@@ -1,88 +1,60 @@
 // What the table of powers says of a text: the number that its digits make, and whether it is what is written for a number.
-ghost use Rattle.std.specs.Prelude.{◌≡◌, ◌+◌, ◌≤◌, ◌<◌, ◌^◌, min, length};
-ghost use Rattle.columns.specs.Column.{marked, digit as digitOf, number, digits, same, part, digits_at, marked_at};
+ghost use Rattle.std.specs.Prelude.{◌≡◌, ◌≤◌, ◌<◌, ◌^◌, ◌&&◌, ltb, length};
+ghost use Rattle.columns.specs.Column.{marked, digit as digitOf, number, digits, same};
 
 use crate::table::power;
 use crate::written::byte_at;
-use columns::bytes::holds;
-use columns_powers::{MOST, POWERS};
+use columns_powers::MOST;
 
 pub fn digit(b: u8) -> u64
     ensures { result ≡ digitOf b }
 {
-    if (b'0' <= b) & (b <= b'9') {
-        (b - b'0') as u64
+    if b.is_ascii_digit() {
+        u64::from(b - b'0')
     } else {
         0
     }
 }
 
-// The number that the digits of the w bytes from at on make.
-fn number_at(text: &[u8], at: usize, w: usize) -> u64
-    requires { (at + w ≤ length text.now) × (w ≤ 19) }
-    ensures { result ≡ number (part text.now at w) }
+// The number that the digits of a column make.
+// Kept (rule): "A constant table of the nineteen powers of ten serves writer and reader"; a plain column is taken in by tens in `columns_read`.
+#[tactic(auto, using(columns::proofs::Steps::sum_on, columns::proofs::Steps::sum_fits, columns::proofs::Steps::sum_over))]
+fn number_of(column: &[u8]) -> u64
+    requires { length column.now ≤ 19 }
+    ensures { result ≡ number column.now }
 {
-    let powers = POWERS;
     let mut sum = 0;
-    let mut i: usize = 0;
-    while i < w {
-        let d = digit(text[at + i]);
-        sum = sum + d * power(&powers, w - 1 - i);
-        i += 1;
+    for (i, &b) in column.iter().enumerate() {
+        sum += digit(b) * power(column.len() - 1 - i);
     }
     sum
 }
 
-// How many of w bytes are read: the last nineteen, or all.
-fn read_bytes(w: usize) -> usize
-    ensures { result ≡ min w 19 }
+// The number that the digits of a column's last nineteen bytes make.
+#[tactic(auto, using(crate::proofs::Puts::digits_last))]
+pub fn digits_in(column: &[u8]) -> u64
+    ensures { result ≡ digits column.now }
 {
-    if w < 19 { w } else { 19 }
+    number_of(&column[column.len().saturating_sub(19)..])
 }
 
-fn digits_at(text: &[u8], at: usize, w: usize) -> u64
-    requires { at + w ≤ length text.now }
-    ensures { result ≡ digits (part text.now at w) }
+// Whether a column is what is written for n with the mark.
+#[tactic(auto, using(crate::proofs::Puts::marked_here, crate::proofs::Puts::marked_not, crate::proofs::Puts::marked_over))]
+fn is_marked(column: &[u8], mark: u8, n: u64) -> bool
+    requires { n < 10 ^ 19 }
+    ensures { result ≡ same column.now (marked mark (length column.now) n) }
 {
-    let n = read_bytes(w);
-    number_at(text, at + (w - n), n)
-}
-
-// The number that the digits of the last nineteen of the w bytes from at on make; 0 where the text is too short.
-pub fn digits_in(text: &[u8], at: usize, w: usize) -> u64
-    ensures { result ≡ digits_at text.now at w }
-{
-    if !holds(text.len(), at, w) {
-        return 0;
-    }
-    digits_at(text, at, w)
-}
-
-// Whether the w bytes from at on are what is written for n with the mark.
-fn is_marked(text: &[u8], at: usize, w: usize, mark: u8, n: u64) -> bool
-    requires { (at + w ≤ length text.now) × (n < 10 ^ 19) }
-    ensures { result ≡ same (part text.now at w) (marked mark w n) }
-{
-    let powers = POWERS;
-    let mut i: usize = 0;
-    while i < w {
-        if text[at + i] != byte_at(&powers, mark, n, w - 1 - i) {
+    for (i, &b) in column.iter().enumerate() {
+        if b != byte_at(mark, n, column.len() - 1 - i) {
             return false;
         }
-        i += 1;
     }
     true
 }
 
-// Whether the w bytes from at on are what is written for n with the mark; false where the text is too short, or n is not written at all.
-pub fn marked_in(text: &[u8], at: usize, w: usize, mark: u8, n: u64) -> bool
-    ensures { result ≡ marked_at text.now at w mark n }
+// The same of any n: none is written from 10^19 on.
+pub fn marked_in(column: &[u8], mark: u8, n: u64) -> bool
+    ensures { result ≡ (ltb n (10 ^ 19) && same column.now (marked mark (length column.now) n)) }
 {
-    if !holds(text.len(), at, w) {
-        return false;
-    }
-    if MOST <= n {
-        return false;
-    }
-    is_marked(text, at, w, mark, n)
+    n < MOST && is_marked(column, mark, n)
 }

@@ -1,43 +1,32 @@
 -- Lines answered one after the other: one line more, and where they end. Assumes nothing.
 use Prim.Native.Nat.{ℕ, zero, suc, ◌+◌, ◌*◌, ◌-◌, ◌/◌, ◌≤◌, ◌<◌, min}
 use mathlib.Core.Path.{◌≡◌, refl, sym, ap, subst, ◌∙◌}
-use mathlib.Core.Bool.{Bool, true, false, not, ◌&&◌}
-use mathlib.Core.List.{List, [], ◌∷◌, ◌++◌, append_assoc, append-nil}
+use mathlib.Core.Bool.{Bool, true, false, not}
+use mathlib.Core.List.{List, [], ◌++◌, append_assoc, append-nil}
 use native.Mathlib.Nat.{add_assoc, zero-add, suc-add}
 use native.Mathlib.Numerals.{add-one}
 use native.Mathlib.Omega.{arith}
-use borrow.Author.Tests.{le-leb, lt-leb, lt-ltb, le-ltb, eq-eqb, ne_eqb, eqb-false, not-true}
-use lib.Dec.{eqb, leb}
-use lib.ListN.{length, take, drop, get_or, set, length-append, length-drop, drop_of_length-le}
-use lib.Seq.{paste, paste-zero, paste-suc, drop-paste, drop-cons, drop-drop, get_or-drop}
-use Rattle.rules.specs.Tests.{pick, both}
-use Rattle.rules.specs.Orders.{shanghai}
+use borrow.Author.Tests.{le-leb, lt-ltb, le-ltb, eq-eqb}
+use lib.Dec.{eqb}
+use lib.ListN.{length, take, drop, get_or, length-append, length-drop}
+use lib.Seq.{paste, drop-drop}
+use Rattle.std.specs.Prelude.{Option, Some, None, cond, position, unwrap_or, ltb}
+use Rattle.std.specs.List.{position_or_len, list_any}
+use Rattle.std.proofs.lemmas.List.Recursion.{is_position_or_len}
+use Rattle.std.proofs.lemmas.List.Sums.{position_or_len_is, prefix_len-le-length}
+use Rattle.std.proofs.lemmas.List.Folds.{list_any_at}
+use Rattle.std.proofs.lemmas.List.{get_or-take}
+use Rattle.std.proofs.lemmas.Bool.{false≢true}
+use Rattle.std.proofs.Common.{ltb-false, length-take-le}
+use Rattle.rules.specs.Tests.{pick}
 use Rattle.rules.specs.Calls.{refused}
 use Rattle.rules.specs.Refusals.{malformed_number}
 use Rattle.rules.specs.declared.calls.Answer.{Answer}
 use Rattle.columns.specs.Pastes.{chain_on}
 use Rattle.columns.specs.Laws.{length_marked}
-use Rattle.claim.specs.Step.{Memory, Stepped, step}
-use Rattle.callfile.specs.Lines.{read_line, answer_text, answer_fits, answer_put, call_bytes}
-use Rattle.callfile.specs.declared.reading.Line.{Line}
-use Rattle.day.specs.Day.{line_step, held_to, printed, line_length, is_whole, first_line, behind_line, Told, none_told, before, told, told_in, Answered, rest_text, file_step, file_text, LoadAnswered, kept_bytes}
-
--- ---- one line
-
-module _ (m : Memory) (line : List ℕ) (read : Line) (e : read ≡ read_line line) where
-  pub line-malformed : (a : Answer) → read.formed ≡ false → a ≡ refused malformed_number → (a ≡ (line_step m line).answer) × (m ≡ (line_step m line).memory)
-  unfolding line_step
-  line-malformed a f p =
-      let g : (read_line line).formed ≡ false = ap (λ (l : Line). l.formed) (sym e) ∙ f in
-      rw g (p, refl)
-
-  pub line_called : (a : Answer) (m' : Memory) → read.formed ≡ true → a ≡ (step shanghai m read.call).answer → m' ≡ (step shanghai m read.call).memory
-      → (a ≡ (line_step m line).answer) × (m' ≡ (line_step m line).memory)
-  unfolding line_step
-  line_called a m' f p q =
-      let g : (read_line line).formed ≡ true = ap (λ (l : Line). l.formed) (sym e) ∙ f in
-      let k : step shanghai m read.call ≡ step shanghai m (read_line line).call = ap (λ (l : Line). step shanghai m l.call) e in
-      rw g (p ∙ ap (λ (s : Stepped). s.answer) k, q ∙ ap (λ (s : Stepped). s.memory) k)
+use Rattle.claim.specs.Step.{Memory, Stepped}
+use Rattle.callfile.specs.Lines.{answer_text, answer_fits, answer_put}
+use Rattle.day.specs.Day.{line_step, held_to, printed, line_length, is_whole, first_line, behind_line, Told, none_told, before, told, told_in, Answered, rest_text, file_step, file_text, LoadAnswered}
 
 -- ---- an answer printed
 
@@ -54,18 +43,39 @@ printed-put d at a held d' h e p = p ∙ ap (answer_put d at) e ∙ rw (le-leb (
 
 -- ---- where a line ends
 
-module _ (t : List ℕ) (i : ℕ) where
-  pub line_here : i < length t → get_or t i 0 ≡ 10 → line_length (drop i t) ≡ 0
-  unfolding line_length
-  line_here h e = ap line_length (drop-cons t i 0 h) ∙ rw (eq-eqb (get_or t i 0) 10 e) refl
+-- std's word for it
+line_length_is : (t : List ℕ) → line_length t ≡ position_or_len (λ b. eqb b 10) t
+unfolding line_length
+line_length_is t = is_position_or_len line_length (λ b. eqb b 10) refl (λ b u. same (eqb b 10) (line_length u)) t
+  where
+    same : (b : Bool) (n : ℕ) → pick b 0 (suc n) ≡ cond b 0 (1 + n)
+    same true n = refl
+    same false n = omega arith
 
-  pub line_on : i < length t → (get_or t i 0 ≡ 10 → ⊥) → line_length (drop i t) ≡ suc (line_length (drop (i + 1) t))
-  unfolding line_length
-  line_on h e = ap line_length (drop-cons t i 0 h) ∙ rw (ne_eqb (get_or t i 0) 10 e) (ap (λ (k : ℕ). suc (line_length (drop k t))) (sym (add-one i)))
+pub line_within : (t : List ℕ) → line_length t ≤ length t
+line_within t = omega (arith, line_length_is t, prefix_len-le-length (λ b. not (eqb b 10)) t)
 
-  pub line_over : length t ≤ i → line_length (drop i t) ≡ 0
-  unfolding line_length
-  line_over h = ap line_length (drop_of_length-le t h)
+-- the first line feed, where there is one
+feed_is : (t : List ℕ) → unwrap_or (position (λ b. eqb b 10) t) (length t) ≡ line_length t
+feed_is t = go (ltb (position_or_len (λ b. eqb b 10) t) (length t)) refl
+  where
+    go : (b : Bool) → ltb (position_or_len (λ b. eqb b 10) t) (length t) ≡ b → unwrap_or (cond b (Some (position_or_len (λ b. eqb b 10) t)) None) (length t) ≡ line_length t
+    go true e = sym (line_length_is t)
+    go false e = omega (arith, line_length_is t, ltb-false (position_or_len (λ b. eqb b 10) t) (length t) e, prefix_len-le-length (λ b. not (eqb b 10)) t)
+
+pub feed_in : (t : List ℕ) (r : Option ℕ) → r ≡ position (λ b. eqb b 10) t → unwrap_or r (length t) ≡ line_length t
+feed_in t r e = ap (λ (x : Option ℕ). unwrap_or x (length t)) e ∙ feed_is t
+
+-- where none of the first n bytes is a line feed and the next is one
+pub line_of : (t : List ℕ) (n : ℕ) → n < length t → list_any (λ b. eqb b 10) (take n t) ≡ false → get_or t n 0 ≡ 10 → n ≡ line_length t
+line_of t n h none e = sym (line_length_is t ∙ position_or_len_is (λ b. eqb b 10) t n 0 (omega arith) before_n (λ _. eq-eqb (get_or t n 0) 10 e))
+  where
+    before_n : (k : ℕ) → k < n → eqb (get_or t k 0) 10 ≡ false
+    before_n k l = go (eqb (get_or t k 0) 10) refl
+      where
+        go : (b : Bool) → eqb (get_or t k 0) 10 ≡ b → b ≡ false
+        go true w = absurd (false≢true (sym none ∙ list_any_at (λ b. eqb b 10) (take n t) k 0 (omega (arith, length-take-le n t (omega arith))) (ap (λ x. eqb x 10) (get_or-take n t k 0 l) ∙ w)))
+        go false w = refl
 
 -- ---- lines told
 
@@ -306,16 +316,6 @@ all_answered m₀ t out₀ k i m out r e =
 -- ---- what is left at the end
 
 module _ (rest : ℕ) (out : List ℕ) where
-  nothing_left : (leb 1 rest && leb 10 (length out)) ≡ false → (0 ≡ length (rest_text rest out)) × (out ≡ paste out 0 (rest_text rest out) (length (rest_text rest out)))
-  unfolding rest_text
-  nothing_left e = rw e (refl, refl)
-
-  pub rest_none : rest < 1 → (0 ≡ length (rest_text rest out)) × (out ≡ paste out 0 (rest_text rest out) (length (rest_text rest out)))
-  rest_none h = nothing_left (rw (lt-leb 1 rest h) refl)
-
-  pub rest_short : 1 ≤ rest → length out < 10 → (0 ≡ length (rest_text rest out)) × (out ≡ paste out 0 (rest_text rest out) (length (rest_text rest out)))
-  rest_short h l = nothing_left (rw (le-leb 1 rest h, lt-leb 10 (length out) l) refl)
-
   pub rest_printed : (a : Answer) (out' : List ℕ) → 1 ≤ rest → 10 ≤ length out → a ≡ refused malformed_number → out' ≡ paste out 0 (printed a) 10
       → (10 ≡ length (rest_text rest out)) × (out' ≡ paste out 0 (rest_text rest out) (length (rest_text rest out)))
   unfolding rest_text
@@ -326,10 +326,6 @@ module _ (rest : ℕ) (out : List ℕ) where
 -- ---- a file of ratios
 
 module _ (m : Memory) (file out : List ℕ) where
-  pub load_short : (m' : Memory) → length out < 10 → m' ≡ (file_step m file).memory → LoadAnswered m file out 0 m' out
-  unfolding file_text
-  load_short m' l e = record { bytes = rw (lt-leb 10 (length out) l) refl; memory = e; buffer = rw (lt-leb 10 (length out) l) (sym (paste-zero out 0 [])) }
-
   pub load_printed : (m' : Memory) (a : Answer) (out' : List ℕ) → 10 ≤ length out → a ≡ (file_step m file).answer → m' ≡ (file_step m file).memory → out' ≡ paste out 0 (printed a) 10
       → LoadAnswered m file out 10 m' out'
   unfolding file_text
@@ -341,79 +337,5 @@ module _ (m : Memory) (file out : List ℕ) where
         buffer = rw (le-leb 10 (length out) l) (p ∙ ap (λ (x : Answer). paste out 0 (printed x) 10) e ∙ ap (λ (x : ℕ). paste out 0 (printed (file_step m file).answer) x) (sym n));
       }
 
--- ---- what is kept for the next reading
-
--- a byte further on than those moved is the one that was there
-pub still_there : (d : List ℕ) (from i : ℕ) → from + i < length d → get_or (paste d 0 (drop from d) i) (from + i) 0 ≡ get_or (drop from d) i 0
-still_there d from i h =
-    let l : length (drop from d) ≡ length d - from = length-drop from d in
-    let a : drop (0 + i) (paste d 0 (drop from d) i) ≡ drop (0 + i) d = drop-paste d 0 (drop from d) i (omega arith) (omega arith) in
-    let z : 0 + i ≡ i = zero-add i in
-    let b : drop i (paste d 0 (drop from d) i) ≡ drop i d = ap (λ (x : ℕ). drop x (paste d 0 (drop from d) i)) (sym z) ∙ a ∙ ap (λ (x : ℕ). drop x d) z in
-    let e : from + i ≡ i + from = omega arith in
-    ap (λ (x : ℕ). get_or (paste d 0 (drop from d) i) x 0) e ∙ sym (get_or-drop i (paste d 0 (drop from d) i) from 0) ∙ ap (λ (x : List ℕ). get_or x from 0) b ∙ get_or-drop i d from 0
-    ∙ ap (λ (x : ℕ). get_or d x 0) (sym e) ∙ sym (get_or-drop from d i 0)
-
-module _ (used filled : ℕ) (d : List ℕ) where
-  none_kept : kept_bytes used filled (length d) ≡ 0 → (0 ≡ kept_bytes used filled (length d)) × (d ≡ paste d 0 (drop used d) 0)
-  none_kept e = (sym e, refl)
-
-  pub kept_long : length d < filled → (0 ≡ kept_bytes used filled (length d)) × (d ≡ paste d 0 (drop used d) 0)
-  unfolding kept_bytes
-  kept_long h = none_kept (rw (lt-leb filled (length d) h) refl)
-
-  pub kept_none : filled ≤ length d → filled ≤ used → (0 ≡ kept_bytes used filled (length d)) × (d ≡ paste d 0 (drop used d) 0)
-  unfolding kept_bytes
-  kept_none h l = none_kept (rw (le-leb filled (length d) h) (omega arith))
-
-  pub kept_some : (n : ℕ) (d' : List ℕ) → filled ≤ length d → n ≡ min (filled - used) call_bytes → d' ≡ paste d 0 (drop used d) n
-      → (n ≡ kept_bytes used filled (length d)) × (d' ≡ paste d 0 (drop used d) n)
-  unfolding kept_bytes
-  kept_some n d' h e p = (rw (le-leb filled (length d) h) e, p)
-
--- one byte more moved
-pub moved_on_lem : (d b : List ℕ) (from n i : ℕ) → from + n ≤ length d → i < n → b ≡ paste d 0 (drop from d) i → set b i (get_or b (from + i) 0) ≡ paste d 0 (drop from d) (i + 1)
-moved_on_lem d b from n i h l e =
-    let ld : length (drop from d) ≡ length d - from = length-drop from d in
-    let z : 0 + i ≡ i = zero-add i in
-    let byte : get_or b (from + i) 0 ≡ get_or (drop from d) i 0 = ap (λ (x : List ℕ). get_or x (from + i) 0) e ∙ still_there d from i (omega arith) in
-    ap (λ (x : ℕ). set b i x) byte ∙ ap (λ (x : List ℕ). set x i (get_or (drop from d) i 0)) e ∙ ap (λ (x : ℕ). set (paste d 0 (drop from d) i) x (get_or (drop from d) i 0)) (sym z)
-    ∙ paste-suc d 0 (drop from d) i 0 (omega arith) (omega arith) ∙ ap (λ (x : ℕ). paste d 0 (drop from d) x) (sym (add-one i))
-
-pub moved_all : (d b : List ℕ) (from n i : ℕ) → i ≤ n → n ≤ i → b ≡ paste d 0 (drop from d) i → b ≡ paste d 0 (drop from d) n
-moved_all d b from n i h l e =
-    let q : i ≡ n = omega arith in
-    e ∙ ap (λ (x : ℕ). paste d 0 (drop from d) x) q
-
 pub held_is : (a : Answer) (r n : ℕ) → r ≡ min a.refusal 999 → n ≡ min a.number 999_999 → ◌≡◌ {A = Answer} (record { refusal = r; number = n }) (held_to a)
 held_is a r n er en = rw (er, en)
-
--- ---- a line as long as a call line
-
-past : (u : List ℕ) (n : ℕ) → n ≤ line_length u → line_length u ≡ n + line_length (drop n u)
-unfolding line_length
-past u zero h = sym (zero-add (line_length u))
-past [] (suc n) h = absurd (omega arith)
-past (b ∷ u) (suc n) h = go (eqb b 10) (λ l. past u n l) h
-  where
-    go : (t : Bool) → (n ≤ line_length u → line_length u ≡ n + line_length (drop n u)) → suc n ≤ pick t 0 (suc (line_length u)) → pick t 0 (suc (line_length u)) ≡ suc n + line_length (drop n u)
-    go true ih l = absurd (omega (arith, l))
-    go false ih l = ap suc (ih (omega (arith, l))) ∙ sym (suc-add n (line_length (drop n u)))
-
-module _ (t : List ℕ) (i : ℕ) where
-  line-past : (n : ℕ) → n ≤ line_length (drop i t) → line_length (drop i t) ≡ n + line_length (drop (i + n) t)
-  line-past n h = past (drop i t) n h ∙ ap (λ (x : List ℕ). n + line_length x) (drop-drop n i t)
-
-  -- one byte more that is no line feed
-  pub past_on : (n : ℕ) → n ≤ line_length (drop i t) → i + n < length t → (get_or t (i + n) 0 ≡ 10 → ⊥) → n + 1 ≤ line_length (drop i t)
-  past_on n h l e = omega (arith, line-past n h, line_on t (i + n) l e)
-
-  -- and one that is
-  pub past_end : (n : ℕ) → n ≤ line_length (drop i t) → i + n < length t → get_or t (i + n) 0 ≡ 10 → i + n ≡ i + line_length (drop i t)
-  past_end n h l e = omega (arith, line-past n h, line_here t (i + n) l e)
-
--- a byte more looked at
-pub none_on : (t : List ℕ) (i k : ℕ) (none : Bool) → i + k < length t → (none ≡ true → k ≤ line_length (drop i t)) → (none && not (eqb (get_or t (i + k) 0) 10)) ≡ true → k + 1 ≤ line_length (drop i t)
-none_on t i k none l h e =
-    let b = both none (not (eqb (get_or t (i + k) 0) 10)) e in
-    past_on t i k (h b.0) l (eqb-false (get_or t (i + k) 0) 10 (not-true (eqb (get_or t (i + k) 0) 10) b.1))

@@ -1,36 +1,31 @@
 // The part of gateday that decides: call lines in, answers out, over slices. The program around it only reads and writes.
 #![tactic(auto)]
 
-ghost use Rattle.std.specs.Prelude.{◌≡◌, true, ◌+◌, ◌-◌, ◌≤◌, min, length, take, drop};
+ghost use Rattle.std.specs.Prelude.{◌≡◌, ◌==◌, true, ◌+◌, ◌≤◌, length, drop, position};
 ghost use Rattle.std.proofs.Math.Seq.{paste};
+ghost use Rattle.rules.specs.Numbers.{told};
 ghost use Rattle.claim.specs.Step.{memory};
+ghost use Rattle.gate.specs.Lent.{memory_in, Leaves, SameLent};
+ghost use Rattle.callfile.specs.Lines.{line_bytes};
 ghost use Rattle.day.specs.Day.{line_step, printed, line_length, told_in, Answered, rest_text, LoadAnswered, kept_bytes};
 
 use callfile::layout::{ANSWER_BYTES, LINE_BYTES};
 use callfile_lines::reading::read_line;
 use callfile_lines::writing::put_answer;
+use gate::Gate;
 use gate_call::calls::call;
 use gate_load::load;
-use rules::calls::{Answer, refused_by};
-use rules::limits::smaller;
-use rules::refusals::MALFORMED;
+use rules::calls::Answer;
+use rules::refusals::Refusal;
 
 // The answer to a line, given without its line feed, and the memory after it.
-pub fn answer_line(
-    register: &mut [u32],
-    book: &mut [u64],
-    places: &mut [u64],
-    line: &[u8],
-) -> Answer
-    ensures { (result ≡ (line_step (memory register.old book.old places.old) line.now).answer)
-        × (memory register.new book.new places.new ≡ (line_step (memory register.old book.old places.old) line.now).memory) }
+#[tactic(auto, unfolding(crate::specs::Day::line_step))]
+pub fn answer_line(gate: &mut Gate<'_>, line: &[u8]) -> Result<u64, Refusal>
+    ensures answer { told result ≡ (line_step (memory_in gate.old) line.now).answer }
+    ensures after { Leaves gate.old gate.new (line_step (memory_in gate.old) line.now).memory }
 {
-    let read = read_line(line);
-    if !read.formed {
-        return refused_by(MALFORMED);
-    }
-    let asked = read.call;
-    call(register, book, places, asked)
+    let asked = read_line(line).ok_or(Refusal::Malformed)?;
+    call(gate, asked)
 }
 
 // An answer's ten bytes from at on.
@@ -39,75 +34,38 @@ fn put_printed(out: &mut [u8], at: usize, answer: Answer)
     ensures { out.new ≡ paste out.old at (printed answer) 10 }
 {
     let held = Answer {
-        refusal: smaller(answer.refusal, 999),
-        number: smaller(answer.number, 999_999),
+        refusal: answer.refusal.min(999),
+        number: answer.number.min(999_999),
     };
     put_answer(out, at, held);
 }
 
-// Whether none of the n bytes from i on is a line feed. All are looked at: that is faster than to stop.
-fn no_feed(text: &[u8], i: usize, n: usize) -> bool
-    requires { i + n ≤ length text.now }
-    ensures { result ≡ true → n ≤ line_length (drop i text.now) }
+fn first_feed(text: &[u8]) -> Option<usize>
+    ensures { result ≡ position (λ b. b == 10) text.now }
 {
-    let mut none = true;
-    let mut k: usize = 0;
-    while k < n {
-        none = none & !(text[i + k] == 10);
-        k += 1;
-    }
-    none
+    text.iter().position(|b| *b == 10)
 }
 
-// Where a line ends, byte by byte.
-fn feed_behind(text: &[u8], i: usize) -> usize
-    requires { i ≤ length text.now }
-    ensures { (result ≡ i + line_length (drop i text.now)) × (result ≤ length text.now) }
+// Whether a text's first line is as long as a call line, told without a look at its bytes one by one.
+fn is_call_long(text: &[u8]) -> bool
+    ensures { result ≡ true → line_bytes ≡ line_length text.now }
 {
-    let mut e = i;
-    while e < text.len() {
-        if text[e] == 10 {
-            return e;
-        }
-        e += 1;
+    if text.len() <= LINE_BYTES || text[LINE_BYTES] != 10 {
+        return false;
     }
-    e
+    let (line, _) = text.split_at(LINE_BYTES);
+    !line.contains(&10)
 }
 
-// Where the line that starts at i ends: at its line feed, or at the end of the text. Most lines are as long as a call line.
-fn line_end(text: &[u8], i: usize) -> usize
-    requires { i ≤ length text.now }
-    ensures { (result ≡ i + line_length (drop i text.now)) × (result ≤ length text.now) }
+// Where a text's first line ends: at its line feed, or at the end of the text. Most lines are as long as a call line.
+fn line_end(text: &[u8]) -> usize
+    ensures end { result ≡ line_length text.now }
+    ensures within { result ≤ length text.now }
 {
-    if text.len() - i <= LINE_BYTES {
-        return feed_behind(text, i);
+    if is_call_long(text) {
+        return LINE_BYTES;
     }
-    if text[i + LINE_BYTES] != 10 {
-        return feed_behind(text, i);
-    }
-    if !no_feed(text, i, LINE_BYTES) {
-        return feed_behind(text, i);
-    }
-    i + LINE_BYTES
-}
-
-// The line from i to e answered, and its answer printed from at on.
-fn answer_at(
-    register: &mut [u32],
-    book: &mut [u64],
-    places: &mut [u64],
-    text: &[u8],
-    i: usize,
-    e: usize,
-    out: &mut [u8],
-    at: usize,
-)
-    requires { (i ≤ e) × (e ≤ length text.now) × (at + 10 ≤ length out.old) }
-    ensures { (memory register.new book.new places.new ≡ (line_step (memory register.old book.old places.old) (take (e - i) (drop i text.now))).memory)
-        × (out.new ≡ paste out.old at (printed (line_step (memory register.old book.old places.old) (take (e - i) (drop i text.now))).answer) 10) }
-{
-    let answer = answer_line(register, book, places, &text[i..e]);
-    put_printed(out, at, answer);
+    first_feed(text).unwrap_or(text.len())
 }
 
 // How far the lines of a text were answered: bytes of the text used, bytes written.
@@ -118,52 +76,45 @@ pub struct Progress {
 }
 
 // Answers the whole lines of a text, as many as there is room for answers.
-pub fn answer_lines(
-    register: &mut [u32],
-    book: &mut [u64],
-    places: &mut [u64],
-    text: &[u8],
-    out: &mut [u8],
-) -> Progress
-    ensures { Answered (told_in out.old (memory register.old book.old places.old) text.now) out.old result
-        (memory register.new book.new places.new) out.new }
+pub fn answer_lines(gate: &mut Gate<'_>, text: &[u8], out: &mut [u8]) -> Progress
+    ensures answered { Answered (told_in out.old (memory_in gate.old) text.now) out.old result (memory_in gate.new) out.new }
+    ensures same { SameLent gate.old gate.new }
 {
     let room = out.len() / ANSWER_BYTES;
-    let mut i: usize = 0;
-    let mut k: usize = 0;
-    while k < room {
-        let e = line_end(text, i);
+    let mut used: usize = 0;
+    for k in 0..room {
+        let e = used + line_end(&text[used..]);
         if e == text.len() {
             return Progress {
-                used: i,
+                used,
                 written: ANSWER_BYTES * k,
             };
         }
-        answer_at(register, book, places, text, i, e, out, ANSWER_BYTES * k);
-        i = e + 1;
-        k += 1;
+        let answer = answer_line(gate, &text[used..e]);
+        put_printed(out, ANSWER_BYTES * k, Answer::from(answer));
+        used = e + 1;
     }
     Progress {
-        used: i,
-        written: ANSWER_BYTES * k,
+        used,
+        written: ANSWER_BYTES * room,
     }
 }
 
 // What is left of an input after its last line feed is a line too: malformed. Answers how many bytes were written.
+#[tactic(auto, using(std::proofs::lemmas::List::Edits::paste_none), unfolding(crate::specs::Day::rest_text))]
 pub fn answer_rest(rest: usize, out: &mut [u8]) -> usize
     ensures { (result ≡ length (rest_text rest out.old)) × (out.new ≡ paste out.old 0 (rest_text rest out.old) (length (rest_text rest out.old))) }
 {
-    if rest < 1 {
+    if rest == 0 || out.len() < ANSWER_BYTES {
         return 0;
     }
-    if out.len() < ANSWER_BYTES {
-        return 0;
-    }
-    put_printed(out, 0, refused_by(MALFORMED));
+    put_printed(out, 0, Answer::from(Err(Refusal::Malformed)));
     ANSWER_BYTES
 }
 
+// Kept (no plainer): three slices: the gate is made after the load, which reads book and places alone, and asks no caller for a loan to write them.
 // The text of a file of ratios loaded (2026-01), and its answer at the start of the buffer. Answers how many bytes were written.
+#[tactic(auto, using(std::proofs::lemmas::List::Edits::paste_none), unfolding(crate::specs::Day::file_text))]
 pub fn answer_load(
     register: &mut [u32],
     book: &[u64],
@@ -177,43 +128,23 @@ pub fn answer_load(
     if out.len() < ANSWER_BYTES {
         return 0;
     }
-    put_printed(out, 0, answer);
+    put_printed(out, 0, Answer::from(answer));
     ANSWER_BYTES
 }
 
 // One byte more than a call line has, its line feed left out.
 pub const MOST_KEPT: usize = LINE_BYTES + 1;
 
-fn fewer(a: usize, b: usize) -> usize
-    ensures { result ≡ min a b }
+// What a piece of the input holds behind the lines that were answered, moved to its front: thirty-nine bytes at most, since a line of more is
+// malformed whatever follows. Answers how many bytes are kept.
+#[tactic(auto, using(std::proofs::lemmas::List::Edits::paste_none), unfolding(crate::specs::Day::kept_bytes))]
+pub fn keep_rest(piece: &mut [u8], used: usize) -> usize
+    ensures { (result ≡ kept_bytes used (length piece.old) (length piece.old)) × (piece.new ≡ paste piece.old 0 (drop used piece.old) result) }
 {
-    if a < b { a } else { b }
-}
-
-// Moves n bytes from `from` on to the buffer's front.
-fn move_down(buffer: &mut [u8], from: usize, n: usize)
-    requires { from + n ≤ length buffer.old }
-    ensures { buffer.new ≡ paste buffer.old 0 (drop from buffer.old) n }
-{
-    let mut i: usize = 0;
-    while i < n {
-        buffer[i] = buffer[from + i];
-        i += 1;
-    }
-}
-
-// What the first `filled` bytes hold behind the lines that were answered, moved to the buffer's front: thirty-nine bytes at most, since a line
-// of more is malformed whatever follows. Answers how many bytes are kept.
-pub fn keep_rest(buffer: &mut [u8], used: usize, filled: usize) -> usize
-    ensures { (result ≡ kept_bytes used filled (length buffer.old)) × (buffer.new ≡ paste buffer.old 0 (drop used buffer.old) result) }
-{
-    if buffer.len() < filled {
+    if piece.len() <= used {
         return 0;
     }
-    if filled <= used {
-        return 0;
-    }
-    let n = fewer(filled - used, MOST_KEPT);
-    move_down(buffer, used, n);
+    let n = (piece.len() - used).min(MOST_KEPT);
+    piece.copy_within(used..used + n, 0);
     n
 }

@@ -2,16 +2,16 @@
 // figure standing, and a withdrawn place is used again" (document 01, Quotas). Held by value, searched, replaced, summed.
 #![tactic(auto)]
 
-ghost use Rattle.std.specs.Prelude.{◌≡◌, ◌≤◌, ◌<◌, leb, length, take};
+ghost use Rattle.std.specs.Prelude.{◌≡◌, ◌≤◌, ◌<◌, leb, length};
 ghost use Rattle.rules.specs.Keyed.{find, is_there};
 ghost use Rattle.rules.specs.Limits.{most_declarers};
 ghost use Rattle.rules.specs.Money.{millions};
 ghost use Rattle.rules.specs.Sums.{sum_over};
-ghost use Rattle.figures.specs.Places.{place_in, closed_up};
-ghost use Rattle.figures.specs.Figures.{standing_of, sum_of, held, place_of, no_figures, replaced_figures, added_figures, closed_figures, declared_figures, withdrawn_figures};
+ghost use Rattle.figures.specs.Places.{closed_up};
+ghost use Rattle.figures.specs.Figures.{standing_of, sum_of, held, place_there, no_figures, replaced_figures, added_figures, closed_figures, declared_figures, withdrawn_figures};
 
 use figures::Figures;
-use rules::limits::{MOST_DECLARERS, TOP_QUOTA, smaller};
+use rules::limits::{MOST_DECLARERS, TOP_QUOTA};
 use rules::money::Millions;
 
 // No figure stands.
@@ -29,7 +29,7 @@ pub fn no_figures() -> Figures
 pub fn count_of(figures: Figures) -> u64
     ensures { result ≡ length (standing_of figures) }
 {
-    smaller(figures.standing, MOST_DECLARERS)
+    figures.standing.min(MOST_DECLARERS)
 }
 
 // "at most eight declarers a group have a figure standing" (Quotas)
@@ -39,60 +39,46 @@ pub fn is_full(figures: Figures) -> bool
     MOST_DECLARERS <= count_of(figures)
 }
 
-// The place of a declarer among the first n, and n where it has none there.
-fn place_in(declarers: [u64; 8], n: usize, declarer: u64) -> usize
-    requires { n ≤ 8 }
-    ensures { result ≡ place_in declarer (take n declarers) }
+// The place of a declarer's figure.
+#[tactic(auto, using(crate::proofs::Walk::standing_most))]
+fn place_of(figures: Figures, declarer: u64) -> Option<usize>
+    ensures { result ≡ place_there figures declarer }
 {
-    let mut i: usize = 0;
-    while i < n {
-        if declarers[i] == declarer {
-            return i;
-        }
-        i += 1;
-    }
-    n
-}
-
-// The place of a declarer's figure, and how many stand where it has none.
-fn place_of(figures: Figures, declarer: u64) -> usize
-    ensures { result ≡ place_of figures declarer }
-{
-    let declarers = figures.declarers;
-    let searched = smaller(figures.standing, MOST_DECLARERS) as usize;
-    place_in(declarers, searched, declarer)
+    let searched = count_of(figures) as usize;
+    figures.declarers[..searched]
+        .iter()
+        .position(|other| *other == declarer)
 }
 
 // The declarer has a figure standing.
 pub fn stands(figures: Figures, declarer: u64) -> bool
     ensures { result ≡ is_there (find declarer (standing_of figures)) }
 {
-    (place_of(figures, declarer) as u64) < count_of(figures)
+    place_of(figures, declarer).is_some()
 }
 
-// The sum of the first n figures, each held to the range of quotas.
-fn sum_in(quotas: [Millions; 8], n: usize) -> u64
-    requires { n ≤ 8 }
-    ensures { result ≡ sum_over held (take n quotas) }
+// The sum of figures, each held to the range of quotas.
+fn sum_in(quotas: &[Millions]) -> u64
+    requires { length quotas.now ≤ 8 }
+    ensures { result ≡ sum_over held quotas.now }
 {
     let mut sum: u64 = 0;
-    let mut i: usize = 0;
-    while i < n {
-        sum += smaller(quotas[i].0, TOP_QUOTA);
-        i += 1;
+    for quota in quotas {
+        sum += quota.0.min(TOP_QUOTA);
     }
     sum
 }
 
 // "the sum of standing figures" (Quotas)
+#[tactic(auto, using(crate::proofs::Walk::standing_most))]
 pub fn sum_of(figures: Figures) -> Millions
     ensures { result ≡ sum_of figures }
 {
-    let quotas = figures.quotas;
-    let summed = smaller(figures.standing, MOST_DECLARERS) as usize;
-    Millions(sum_in(quotas, summed))
+    let summed = count_of(figures) as usize;
+    Millions(sum_in(&figures.quotas[..summed]))
 }
 
+// Kept (no plainer): `place < 8` stands in three private contracts, each proved from the search that gave the place.
 // The figures with the quota at a place.
 fn replaced(figures: Figures, place: usize, quota: Millions) -> Figures
     requires { place < 8 }
@@ -100,9 +86,7 @@ fn replaced(figures: Figures, place: usize, quota: Millions) -> Figures
 {
     let mut quotas = figures.quotas;
     quotas[place] = quota;
-    let mut next = figures;
-    next.quotas = quotas;
-    next
+    Figures { quotas, ..figures }
 }
 
 // The figures with one more.
@@ -117,8 +101,8 @@ fn added(figures: Figures, declarer: u64, quota: Millions) -> Figures
     quotas[place] = quota;
     Figures {
         standing: figures.standing + 1,
-        declarers: declarers,
-        quotas: quotas,
+        declarers,
+        quotas,
     }
 }
 
@@ -126,42 +110,21 @@ fn added(figures: Figures, declarer: u64, quota: Millions) -> Figures
 pub fn declared(figures: Figures, declarer: u64, quota: Millions) -> Figures
     ensures { result ≡ declared_figures figures declarer quota }
 {
-    if stands(figures, declarer) {
-        return replaced(figures, place_of(figures, declarer), quota);
+    match place_of(figures, declarer) {
+        Some(place) => replaced(figures, place, quota),
+        None if is_full(figures) => figures,
+        None => added(figures, declarer, quota),
     }
-    if is_full(figures) {
-        return figures;
-    }
-    added(figures, declarer, quota)
 }
 
-// The declarers after a place moved down by one.
-fn closed_declarers(declarers: [u64; 8], place: usize) -> [u64; 8]
+// The entries after a place moved down by one, and `none` in the last place.
+fn closed_up<T: Copy>(entries: [T; 8], place: usize, none: T) -> [T; 8]
     requires { place < 8 }
-    ensures { result ≡ closed_up place 0 declarers }
+    ensures { result ≡ closed_up place none entries }
 {
-    let mut next = declarers;
-    let mut i = place;
-    while i < 7 {
-        next[i] = declarers[i + 1];
-        i += 1;
-    }
-    next[7] = 0;
-    next
-}
-
-// The quotas after a place moved down by one.
-fn closed_quotas(quotas: [Millions; 8], place: usize) -> [Millions; 8]
-    requires { place < 8 }
-    ensures { result ≡ closed_up place (millions 0) quotas }
-{
-    let mut next = quotas;
-    let mut i = place;
-    while i < 7 {
-        next[i] = quotas[i + 1];
-        i += 1;
-    }
-    next[7] = Millions(0);
+    let mut next = entries;
+    next.copy_within(place + 1.., place);
+    next[7] = none;
     next
 }
 
@@ -170,12 +133,10 @@ fn closed(figures: Figures, place: usize) -> Figures
     requires { (place < 8) × (1 ≤ figures.standing) }
     ensures { result ≡ closed_figures figures place }
 {
-    let declarers = figures.declarers;
-    let quotas = figures.quotas;
     Figures {
         standing: figures.standing - 1,
-        declarers: closed_declarers(declarers, place),
-        quotas: closed_quotas(quotas, place),
+        declarers: closed_up(figures.declarers, place, 0),
+        quotas: closed_up(figures.quotas, place, Millions(0)),
     }
 }
 
@@ -183,8 +144,8 @@ fn closed(figures: Figures, place: usize) -> Figures
 pub fn withdrawn(figures: Figures, declarer: u64) -> Figures
     ensures { result ≡ withdrawn_figures figures declarer }
 {
-    if stands(figures, declarer) {
-        return closed(figures, place_of(figures, declarer));
+    match place_of(figures, declarer) {
+        Some(place) => closed(figures, place),
+        None => figures,
     }
-    figures
 }

@@ -1,43 +1,36 @@
--- Loops over the gate's rows: one row on, and the end. Assumes nothing.
-use Prim.Native.Nat.{ℕ, zero, suc, ◌+◌, ◌*◌, ◌-◌, ◌≤◌, ◌<◌}
+-- The gate's rows: read one after the other, and written. Assumes nothing.
+use Prim.Native.Nat.{ℕ, zero, suc, ◌+◌, ◌*◌, ◌≤◌, ◌<◌}
 use mathlib.Core.Path.{◌≡◌, refl, sym, ap, ◌∙◌}
 use mathlib.Core.Bool.{Bool, true, false, not, ◌&&◌}
 use mathlib.Core.List.{List, [], ◌∷◌, ◌++◌, append_assoc, append-nil}
 use native.Mathlib.Nat.{zero-add}
 use native.Mathlib.Numerals.{add-one}
 use native.Mathlib.Omega.{arith}
-use borrow.Author.Tests.{le-leb, lt-ltb, le-ltb, ltb-false}
-use lib.Dec.{eqb, leb, ltb}
-use lib.ListN.{length}
+use borrow.Author.Tests.{le-leb, ltb-false}
+use lib.Dec.{leb, ltb}
+use lib.ListN.{length, get_or}
 use lib.Seq.{paste, length-paste}
 use Rattle.rules.specs.Tests.{pick, both}
-use Rattle.rules.specs.Laws.{where_refused, where_accepted}
+use Rattle.rules.specs.Refusals.{unsound_number, short_buffer_number, refusal}
+use Rattle.rules.specs.Laws.{where_accepted}
+use Rattle.rules.specs.Numbers.{number_of, refused_is}
 use Rattle.columns.specs.Pastes.{chain_on}
 use Rattle.quota.specs.Asks.{is_sound, groups_enrolled}
 use Rattle.quota.specs.Promises.{groups_most}
 use Rattle.orders.specs.Host.{host_ok}
-use Rattle.rows.specs.Row.{row_kept, row_at}
+use Rattle.std.specs.Prelude.{Ok, Err}
+use Rattle.std.specs.List.{list_all}
+use Rattle.std.proofs.lemmas.List.Folds.{list_all_at}
+use Rattle.rules.specs.declared.refusals.Refusal.{Refusal}
+use Rattle.rows.specs.Row.{RowRead, no_row, row_told, row_obeys, row_kept, row_at, row-at_kept}
 use Rattle.rows.specs.declared.Row.{Row}
-use Rattle.rows.specs.declared.RowRead.{RowRead}
-use Rattle.listing.specs.Text.{row_text, row_put, listing_text, same_key, fresh, rows_kept, listing_kept, row_bytes}
+use Rattle.listing.proofs.Keyed.{kept_by_keys}
+use Rattle.listing.specs.Text.{row_text, row_put, listing_text, key_of, fresh, rows_kept, listing_kept, row_bytes}
 use Rattle.listing.specs.Laws.{length_listing}
 use Rattle.gate_listing.specs.Listed.{rows_on, gate_rows, list_refusal, listed}
 use Rattle.claim.specs.Step.{memory}
 
 module _ (rs bs : List ℕ) where
-  -- the next row, and the others
-  rows_next : (i n : ℕ) → i < n → rows_on rs bs i (n - i) ≡ (row_at rs bs i).row ∷ rows_on rs bs (i + 1) (n - (i + 1))
-  unfolding rows_on
-  rows_next i n h =
-      let e : n - i ≡ suc (n - (i + 1)) = omega arith in
-      ap (λ (k : ℕ). rows_on rs bs i k) e ∙ ap (λ (k : ℕ). (row_at rs bs i).row ∷ rows_on rs bs k (n - (i + 1))) (sym (add-one i))
-
-  rows_none : (i n : ℕ) → n ≤ i → rows_on rs bs i (n - i) ≡ []
-  unfolding rows_on
-  rows_none i n h =
-      let e : n - i ≡ 0 = omega arith in
-      ap (λ (k : ℕ). rows_on rs bs i k) e
-
   -- one row more at the end
   rows_last : (i n : ℕ) → rows_on rs bs i (suc n) ≡ rows_on rs bs i n ++ ((row_at rs bs (i + n)).row ∷ [])
   unfolding rows_on
@@ -48,47 +41,37 @@ module _ (rs bs : List ℕ) where
       let e : suc i + n ≡ i + suc n = omega arith in
       ap (λ (l : List Row). (row_at rs bs i).row ∷ l) (rows_last (suc i) n ∙ ap (λ (k : ℕ). rows_on rs bs (suc i) n ++ ((row_at rs bs k).row ∷ [])) e)
 
-  length-rows : (i n : ℕ) → length (rows_on rs bs i n) ≡ n
+  pub length-rows : (i n : ℕ) → length (rows_on rs bs i n) ≡ n
   unfolding rows_on
   length-rows i zero = refl
   length-rows i (suc n) = ap suc (length-rows (suc i) n)
 
-  -- ---- no code with class repeated
+  row_among : (j n i : ℕ) (d : Row) → i < n → get_or (rows_on rs bs j n) i d ≡ (row_at rs bs (j + i)).row
+  unfolding rows_on
+  row_among j zero i d h = absurd (omega arith)
+  row_among j (suc n) zero d h = let e : j ≡ j + 0 = omega arith in ap (λ (x : ℕ). (row_at rs bs x).row) e
+  row_among j (suc n) (suc i) d h = let e : suc j + i ≡ j + suc i = omega arith in row_among (suc j) n i d (omega arith) ∙ ap (λ (x : ℕ). (row_at rs bs x).row) e
 
-  module _ (row : Row) (f : Bool) (i n : ℕ) (inv : f ≡ fresh row (rows_on rs bs i (n - i))) where
-    fresh_on : i < n → f ≡ (not (same_key row (row_at rs bs i).row) && fresh row (rows_on rs bs (i + 1) (n - (i + 1))))
-    unfolding fresh
-    fresh_on h = inv ∙ ap (fresh row) (rows_next i n h)
+  -- ---- a row read
 
-    pub fresh_step : i < n → same_key row (row_at rs bs i).row ≡ false → f ≡ fresh row (rows_on rs bs (i + 1) (n - (i + 1)))
-    fresh_step h e = fresh_on h ∙ rw e refl
+  pub told_kept : (i : ℕ) (row : Row) → row_told (Ok row) ≡ row_at rs bs i → row_kept row ≡ true
+  told_kept i row e = ap (λ (x : RowRead). row_kept x.row) e ∙ row-at_kept rs bs i (sym (ap (λ (x : RowRead). x.refusal) e))
 
-    pub fresh_fail : i < n → same_key row (row_at rs bs i).row ≡ true → f ≡ false
-    fresh_fail h e = fresh_on h ∙ rw e refl
+  told_broken : (i : ℕ) (r : Refusal) → row_told (Err r) ≡ row_at rs bs i → row_kept (row_at rs bs i).row ≡ false
+  unfolding row_kept row_obeys
+  told_broken i r e = ap (λ (x : RowRead). row_kept x.row) (sym e)
 
-    pub fresh_end : n ≤ i → f ≡ true
-    unfolding fresh
-    fresh_end h = inv ∙ ap (fresh row) (rows_none i n h)
+  pub among : (n i : ℕ) (row : Row) → i < n → row_told (Ok row) ≡ row_at rs bs i → (row_kept (get_or (rows_on rs bs 0 n) i no_row) ≡ true) × (key_of row ≡ key_of (get_or (rows_on rs bs 0 n) i no_row))
+  among n i row h e =
+      let there : get_or (rows_on rs bs 0 n) i no_row ≡ row = row_among 0 n i no_row h ∙ ap (λ (x : ℕ). (row_at rs bs x).row) (zero-add i) ∙ sym (ap (λ (x : RowRead). x.row) e) in
+      (ap row_kept there ∙ told_kept i row e, ap key_of (sym there))
 
-  -- ---- every row
-
-  module _ (k : Bool) (i n : ℕ) (inv : k ≡ rows_kept (rows_on rs bs i (n - i))) where
-    kept_on : i < n → k ≡ (row_kept (row_at rs bs i).row && (fresh (row_at rs bs i).row (rows_on rs bs (i + 1) (n - (i + 1))) && rows_kept (rows_on rs bs (i + 1) (n - (i + 1)))))
-    unfolding rows_kept
-    kept_on h = inv ∙ ap rows_kept (rows_next i n h)
-
-    pub kept_broken : i < n → row_kept (row_at rs bs i).row ≡ false → k ≡ false
-    kept_broken h e = kept_on h ∙ rw e refl
-
-    pub kept_repeated : i < n → row_kept (row_at rs bs i).row ≡ true → fresh (row_at rs bs i).row (rows_on rs bs (i + 1) (n - (i + 1))) ≡ false → k ≡ false
-    kept_repeated h e f = kept_on h ∙ rw (e, f) refl
-
-    pub kept_step : i < n → row_kept (row_at rs bs i).row ≡ true → fresh (row_at rs bs i).row (rows_on rs bs (i + 1) (n - (i + 1))) ≡ true → k ≡ rows_kept (rows_on rs bs (i + 1) (n - (i + 1)))
-    kept_step h e f = kept_on h ∙ rw (e, f) refl
-
-    pub kept_end : n ≤ i → k ≡ true
-    unfolding rows_kept
-    kept_end h = inv ∙ ap rows_kept (rows_none i n h)
+  pub broken_among : (n i : ℕ) (r : Refusal) → i < n → row_told (Err r) ≡ row_at rs bs i → false ≡ rows_kept (rows_on rs bs 0 n)
+  broken_among n i r h e =
+      let there : get_or (rows_on rs bs 0 n) i no_row ≡ (row_at rs bs i).row = row_among 0 n i no_row h ∙ ap (λ (x : ℕ). (row_at rs bs x).row) (zero-add i) in
+      let none : list_all row_kept (rows_on rs bs 0 n) ≡ false =
+      list_all_at row_kept (rows_on rs bs 0 n) i no_row (rw (length-rows 0 n) h) (ap row_kept there ∙ told_broken i r e) in
+      sym (kept_by_keys (rows_on rs bs 0 n) ∙ rw none refl)
 
   -- a row of those that all keep their rules
   row_of_kept : (j n i : ℕ) → i < n → rows_kept (rows_on rs bs j n) ≡ true → row_kept (row_at rs bs (j + i)).row ≡ true
@@ -119,9 +102,6 @@ module _ (rs bs : List ℕ) where
       ∙ listing_append (rows_on rs bs 0 i) ((row_at rs bs i).row ∷ [])
       ∙ ap (λ (t : List ℕ). listing_text (rows_on rs bs 0 i) ++ t) one
 
-  pub put_start : (d : List ℕ) → d ≡ paste d 0 (listing_text (rows_on rs bs 0 0)) (row_bytes * 0)
-  put_start d = refl
-
   pub put_step : (d b c : List ℕ) (i n : ℕ) (row : Row) → i < n → row_bytes * n ≤ length d → rows_kept (rows_on rs bs 0 n) ≡ true → row ≡ (row_at rs bs i).row
       → b ≡ paste d 0 (listing_text (rows_on rs bs 0 i)) (row_bytes * i) → c ≡ row_put b (row_bytes * i) row → c ≡ paste d 0 (listing_text (rows_on rs bs 0 (i + 1))) (row_bytes * (i + 1))
   unfolding row_put
@@ -140,10 +120,6 @@ module _ (rs bs : List ℕ) where
 -- ---- the refusal
 
 module _ (rs bs ps : List ℕ) (room : ℕ) where
-  pub list_unsound : host_ok rs bs ps ≡ false → 1 ≡ list_refusal (memory rs bs ps) room
-  unfolding list_refusal
-  list_unsound e = rw e
-
   module _ (e : host_ok rs bs ps ≡ true) where
     pub enrolled_most : groups_enrolled rs ≤ 64
     unfolding host_ok
@@ -156,17 +132,20 @@ module _ (rs bs ps : List ℕ) (room : ℕ) where
         let l : leb (length (rows_on rs bs 0 (groups_enrolled rs))) 64 ≡ true = ap (λ (x : ℕ). leb x 64) (length-rows rs bs 0 (groups_enrolled rs)) ∙ le-leb (groups_enrolled rs) 64 enrolled_most in
         rw (e, l) (sym i)
 
-    pub list_broken : (k : Bool) → k ≡ rows_kept (rows_on rs bs 0 (groups_enrolled rs)) → k ≡ false → 1 ≡ list_refusal (memory rs bs ps) room
-    unfolding list_refusal
-    list_broken k i f = rw (rows_are k i ∙ f)
+  -- the refusal, by the tests that the code makes one after the other
+  pub list_is : list_refusal (memory rs bs ps) room
+      ≡ refusal (
+      (unsound_number, not (host_ok rs bs ps)) ∷ (unsound_number, not (rows_kept (rows_on rs bs 0 (groups_enrolled rs)))) ∷ (short_buffer_number, ltb room (row_bytes * groups_enrolled rs)) ∷ []
+      )
+  unfolding list_refusal
+  list_is = go (host_ok rs bs ps) refl
+    where
+      short : ℕ
+      short = pick (ltb room (row_bytes * groups_enrolled rs)) short_buffer_number 0
 
-    pub list_short : (k : Bool) → k ≡ rows_kept (rows_on rs bs 0 (groups_enrolled rs)) → k ≡ true → room < row_bytes * groups_enrolled rs → 22 ≡ list_refusal (memory rs bs ps) room
-    unfolding list_refusal
-    list_short k i f h = rw (rows_are k i ∙ f, lt-ltb room (row_bytes * groups_enrolled rs) h)
-
-    pub list_clear : (k : Bool) → k ≡ rows_kept (rows_on rs bs 0 (groups_enrolled rs)) → k ≡ true → row_bytes * groups_enrolled rs ≤ room → 0 ≡ list_refusal (memory rs bs ps) room
-    unfolding list_refusal
-    list_clear k i f h = rw (rows_are k i ∙ f, le-ltb room (row_bytes * groups_enrolled rs) h)
+      go : (b : Bool) → host_ok rs bs ps ≡ b → pick (not (b && listing_kept (gate_rows rs bs))) unsound_number short ≡ pick (not b) unsound_number (pick (not (rows_kept (rows_on rs bs 0 (groups_enrolled rs)))) unsound_number short)
+      go true e = ap (λ (k : Bool). pick (not k) unsound_number short) (sym (ap (λ (h : Bool). h && listing_kept (gate_rows rs bs)) e) ∙ rows_are e (rows_kept (rows_on rs bs 0 (groups_enrolled rs))) refl)
+      go false e = refl
 
 -- what a clear refusal tells
 pub record Clear (rs bs : List ℕ) (room : ℕ) : Type 0 where
@@ -188,43 +167,20 @@ pub list_known : (rs bs ps : List ℕ) (room r : ℕ) → r ≡ list_refusal (me
 unfolding list_refusal
 list_known rs bs ps room r e z = go (host_ok rs bs ps && listing_kept (gate_rows rs bs)) (ltb room (row_bytes * groups_enrolled rs)) refl refl (sym e ∙ z)
   where
-    go : (a b : Bool) → (host_ok rs bs ps && listing_kept (gate_rows rs bs)) ≡ a → ltb room (row_bytes * groups_enrolled rs) ≡ b → ◌≡◌ {A = ℕ} (pick (not a) 1 (pick b 22 0)) 0 → Clear rs bs room
+    go : (a b : Bool) → (host_ok rs bs ps && listing_kept (gate_rows rs bs)) ≡ a → ltb room (row_bytes * groups_enrolled rs) ≡ b → pick (not a) unsound_number (pick b short_buffer_number 0) ≡ 0 → Clear rs bs room
     go true false p q k = clear_known rs bs ps room p q
     go true true p q k = absurd (omega arith)
     go false b p q k = absurd (omega arith)
 
-module _ (rs bs ps d : List ℕ) (r : ℕ) (e : r ≡ list_refusal (memory rs bs ps) (length d)) where
-  pub write_refused : (r ≡ 0 → ⊥) → (r ≡ list_refusal (memory rs bs ps) (length d)) × (d ≡ listed (memory rs bs ps) d)
+module _ (rs bs ps d : List ℕ) where
+  -- a listing that is refused writes nothing
+  pub write_refused : (r : Refusal) → number_of r ≡ list_refusal (memory rs bs ps) (length d) → d ≡ listed (memory rs bs ps) d
   unfolding listed
-  write_refused n = (e, sym (where_refused (paste d 0 (listing_text (gate_rows rs bs)) (row_bytes * groups_enrolled rs)) d (list_refusal (memory rs bs ps) (length d)) (λ z. n (e ∙ z))))
+  write_refused r e = rw (← e) (sym (refused_is r (paste d 0 (listing_text (gate_rows rs bs)) (row_bytes * groups_enrolled rs)) d))
 
-  pub write_done : (b : List ℕ) → r ≡ 0 → b ≡ paste d 0 (listing_text (rows_on rs bs 0 (groups_enrolled rs))) (row_bytes * groups_enrolled rs) → (0 ≡ list_refusal (memory rs bs ps) (length d)) × (b ≡ listed (memory rs bs ps) d)
+  pub write_done : (b : List ℕ) → 0 ≡ list_refusal (memory rs bs ps) (length d) → b ≡ paste d 0 (listing_text (rows_on rs bs 0 (groups_enrolled rs))) (row_bytes * groups_enrolled rs) → b ≡ listed (memory rs bs ps) d
   unfolding listed gate_rows
-  write_done b z p = (sym (sym e ∙ z), p ∙ sym (where_accepted (paste d 0 (listing_text (rows_on rs bs 0 (groups_enrolled rs))) (row_bytes * groups_enrolled rs)) d (list_refusal (memory rs bs ps) (length d)) (sym e ∙ z)))
-
-pub put_end : (rs bs d b : List ℕ) (i n : ℕ) → i ≤ n → n ≤ i → b ≡ paste d 0 (listing_text (rows_on rs bs 0 i)) (row_bytes * i) → b ≡ paste d 0 (listing_text (rows_on rs bs 0 n)) (row_bytes * n)
-put_end rs bs d b i n h l e =
-    let q : i ≡ n = omega arith in
-    e ∙ ap (λ (x : ℕ). paste d 0 (listing_text (rows_on rs bs 0 x)) (row_bytes * x)) q
-
--- the test of a code with its class, of a row that was read
-pub key_is : (row : Row) (t : Bool) (read is : RowRead) → read ≡ is → (eqb row.code read.row.code && eqb row.class read.row.class) ≡ t → same_key row is.row ≡ t
-key_is row t read is e p = ap (λ (x : RowRead). same_key row x.row) (sym e) ∙ p
-
--- what a row's own functions say of it
-pub kept_is : (t : Bool) (read is : RowRead) (k : Bool) → read ≡ is → k ≡ row_kept read.row → k ≡ t → row_kept is.row ≡ t
-kept_is t read is k e p q = ap (λ (x : RowRead). row_kept x.row) (sym e) ∙ sym p ∙ q
-
-pub fresh_is : (t : Bool) (others : List Row) (read is : RowRead) (k : Bool) → read ≡ is → k ≡ fresh read.row others → k ≡ t → fresh is.row others ≡ t
-fresh_is t others read is k e p q = ap (λ (x : RowRead). fresh x.row others) (sym e) ∙ sym p ∙ q
-
-pub counted : (rs bs : List ℕ) (n : ℕ) (k : Bool) → n ≡ groups_enrolled rs → k ≡ rows_kept (rows_on rs bs 0 n) → k ≡ rows_kept (rows_on rs bs 0 (groups_enrolled rs))
-counted rs bs n k e p = p ∙ ap (λ (x : ℕ). rows_kept (rows_on rs bs 0 x)) e
+  write_done b z p = p ∙ sym (where_accepted (paste d 0 (listing_text (rows_on rs bs 0 (groups_enrolled rs))) (row_bytes * groups_enrolled rs)) d (list_refusal (memory rs bs ps) (length d)) (sym z))
 
 pub rows_written : (rs bs d b : List ℕ) (n : ℕ) → n ≡ groups_enrolled rs → b ≡ paste d 0 (listing_text (rows_on rs bs 0 n)) (row_bytes * n) → b ≡ paste d 0 (listing_text (rows_on rs bs 0 (groups_enrolled rs))) (row_bytes * groups_enrolled rs)
 rows_written rs bs d b n e p = p ∙ ap (λ (x : ℕ). paste d 0 (listing_text (rows_on rs bs 0 x)) (row_bytes * x)) e
-
-pub from_start : (rs bs : List ℕ) (n : ℕ) → rows_kept (rows_on rs bs 0 n) ≡ rows_kept (rows_on rs bs 0 (n - 0))
-from_start rs bs n =
-    let z : n ≡ n - 0 = omega arith in
-    ap (λ (x : ℕ). rows_kept (rows_on rs bs 0 x)) z

@@ -1,6 +1,6 @@
 -- The proof of the claim about listings. Assumes nothing.
 use Prim.Native.Nat.{ℕ, zero, suc, ◌+◌, ◌*◌, ◌≤◌, ◌<◌}
-use Rattle.std.specs.Prelude.{◌≡◌, Bool, false, ◌&&◌, eqb, ltb}
+use Rattle.std.specs.Prelude.{◌≡◌, Bool, false, ◌&&◌, eqb, ltb, Some, None}
 use Rattle.std.proofs.Math.Path.{refl, ap}
 use Rattle.std.proofs.Common.{sym, ◌∙◌, arith}
 use Rattle.std.proofs.Math.Bool.{true}
@@ -13,8 +13,7 @@ use Rattle.rules.specs.Limits.{top_quota}
 use Rattle.rules.specs.Quotas.{own_under, in_force}
 use Rattle.rules.specs.Orders.{shanghai}
 use Rattle.rules.specs.Laws.{where_accepted}
-use Rattle.rules.specs.declared.quotas.Limit.{Limit}
-use Rattle.rules.specs.declared.quotas.Limit.TheVariants.{Nothing, At}
+use Rattle.rules.specs.Money.{Limit}
 use Rattle.rules.specs.declared.calls.Call.{Call}
 use Rattle.history.specs.Past.{History, at_opening, money_of}
 use Rattle.history.specs.Past as past
@@ -38,16 +37,16 @@ use Rattle.claim.specs.Theorem.{Sim, row_is_lem}
 use Rattle.claim.proofs.Theorem.{run_sim, all_sim, opened_sim}
 use Rattle.rows.specs.Row.{limits_kept, row_obeys, row_kept, made_row, shown_row, row_at, shown_kept}
 use Rattle.rows.specs.declared.Row.{Row}
-use Rattle.rows.specs.declared.RowRead.{RowRead}
+use Rattle.rows.specs.Row.{RowRead}
 use Rattle.listing.specs.Text.{listing_text, same_key, fresh, rows_kept, listing_kept, row_bytes}
 use Rattle.gate_listing.specs.Listed.{rows_on, gate_rows, list_refusal, listed}
 use Rattle.gate_listing.specs.Claim.{history_row, history_rows_on, history_rows, ListedAs, ListingDemand}
 
 -- maximum and own quota of a group as calls leave it
 limits_kept_lem : (m o : Limit) → LimitFits m → OwnWithin m o → limits_kept m (own_under m o) ≡ true
-limits_kept_lem Nothing o f w = refl
-limits_kept_lem (At maximum) Nothing f w = rw (le-leb maximum.0 top_quota f, le-leb maximum.0 maximum.0 (omega arith))
-limits_kept_lem (At maximum) (At own) f w = rw (le-leb maximum.0 top_quota f, le-leb own.0 maximum.0 w)
+limits_kept_lem None o f w = refl
+limits_kept_lem (Some maximum) None f w = rw (le-leb maximum.0 top_quota f, le-leb maximum.0 maximum.0 (omega arith))
+limits_kept_lem (Some maximum) (Some own) f w = rw (le-leb maximum.0 top_quota f, le-leb own.0 maximum.0 w)
 
 -- a history has a row for each group
 pub history_length : (h : History) (i n : ℕ) → length (history_rows_on h i n) ≡ n

@@ -2,42 +2,43 @@
 #![tactic(auto)]
 
 ghost use Rattle.std.specs.Prelude.{◌≡◌};
+ghost use Rattle.rules.specs.Numbers.{refusal_number};
 ghost use Rattle.claim.specs.Opening.{open_refusal, open_register, open_book};
 ghost use Rattle.claim.specs.Step.{memory};
 
-use book::layout::{BOOK, PLACE_WORDS};
+use book::layout::{BOOK, PLACE_WORDS, PLACES};
 use register::layout::REGISTER;
 use register_ratios::put_ratios;
+use rules::limits::TOP_ORDER;
 use rules::quotas::Ratios;
-use rules::refusals::UNSOUND;
-use words::{store, store32};
+use rules::refusals::{Refusal, refuse};
 
-// 0, or 1 where a slice has another length or N, the places lent, is out of its range.
-pub fn refusal_of_opening(register: &[u32], book: &[u64], places: &[u64]) -> u64
-    ensures { result ≡ open_refusal (memory register.now book.now places.now) }
+// Kept (rule): three slices and no `gate::Gate`: C lends the places to be read alone (`const`).
+// Refused where a slice has another length or N, the places lent, is out of its range.
+#[tactic(auto, unfolding(claim::specs::Opening::open_refusal))]
+pub fn refusal_of_opening(register: &[u32], book: &[u64], places: &[u64]) -> Result<(), Refusal>
+    ensures { refusal_number result ≡ open_refusal (memory register.now book.now places.now) }
 {
     let n = places.len() / PLACE_WORDS;
     let whole = places.len() == PLACE_WORDS * n;
-    let lent = whole & ((1 <= n) & (n <= 65_536));
+    let lent = whole & ((1 <= n) & (n <= TOP_ORDER as usize));
     let ok = (register.len() == REGISTER) & ((book.len() == BOOK) & lent);
-    if ok { 0 } else { UNSOUND }
+    refuse(!ok, Refusal::Unsound)
 }
 
 // A fresh gate: nothing enrolled or attached, no order, the old ratios, N as many as the places lent.
-pub fn open(register: &mut [u32], book: &mut [u64], places: &[u64]) -> u64
-    ensures { (result ≡ open_refusal (memory register.old book.old places.now))
-        × ((register.new ≡ open_register (memory register.old book.old places.now))
-        × (book.new ≡ open_book (memory register.old book.old places.now))) }
+#[tactic(auto, using(crate::proofs::Opened::open_known), unfolding(claim::specs::Opening::open_register, claim::specs::Opening::open_book))]
+pub fn open(register: &mut [u32], book: &mut [u64], places: &[u64]) -> Result<(), Refusal>
+    ensures answer { refusal_number result ≡ open_refusal (memory register.old book.old places.now) }
+    ensures register { register.new ≡ open_register (memory register.old book.old places.now) }
+    ensures book { book.new ≡ open_book (memory register.old book.old places.now) }
 {
-    let refusal = refusal_of_opening(register, book, places);
-    if refusal != 0 {
-        return refusal;
-    }
+    refusal_of_opening(register, book, places)?;
     let n = places.len() / PLACE_WORDS;
-    let mut fresh = [0u64; BOOK];
-    fresh[0] = n as u64;
-    store(book, 0, &fresh);
-    store32(register, 0, &[0u32; REGISTER]);
+    book.fill(0);
+    // Kept (no plainer): `usize` has no `From` into `u64`.
+    book[PLACES] = n as u64;
+    register.fill(0);
     put_ratios(register, Ratios::old());
-    0
+    Ok(())
 }

@@ -11,7 +11,7 @@ use lib.ListN.{length, drop, take, length-append, length-drop, drop_of_length-le
 use lib.Seq.{take_at, drop-append-add, drop-drop}
 use Rattle.rules.specs.Tests.{pick, both}
 use Rattle.rules.specs.Orders.{Rule, shanghai}
-use Rattle.rules.specs.Refusals.{out_of_range_number, unless_refused}
+use Rattle.rules.specs.Refusals.{out_of_range_number}
 use Rattle.rules.specs.declared.calls.Call.{Call}
 use Rattle.rules.specs.declared.calls.Answer.{Answer}
 use Rattle.words.specs.Words.{splice, stored}
@@ -63,12 +63,6 @@ behind w a xs k e h =
     let d : drop (k + length xs) (w ++ drop k a) ≡ drop (k + length xs) a =
     ap (λ (z : ℕ). drop z (w ++ drop k a)) n ∙ drop-append-add w (drop k a) (length xs) ∙ drop-drop (length xs) k a in
     rw (le-leb (k + length xs) (length (w ++ drop k a)) l) (ap (λ (z : List ℕ). (z ++ xs) ++ drop (k + length xs) (w ++ drop k a)) t ∙ ap (λ (z : List ℕ). (w ++ xs) ++ z) d)
-
--- what one turn does, by the call that the words hold
-pub turned : (m m' : Memory) (c d : Call) (a : Answer) (o o' : List ℕ) (k : ℕ) → c ≡ d → a ≡ (step shanghai m c).answer → m' ≡ (step shanghai m c).memory → o' ≡ stored o k (a.refusal ∷ a.number ∷ [])
-    → (m' ≡ (step shanghai m d).memory) × (o' ≡ stored o k ((step shanghai m d).answer.refusal ∷ (step shanghai m d).answer.number ∷ []))
-turned m m' c d a o o' k e p q s =
-    (q ∙ ap (λ (x : Call). (step shanghai m x).memory) e, s ∙ ap (λ (x : Answer). stored o k (x.refusal ∷ x.number ∷ [])) (p ∙ ap (λ (x : Call). (step shanghai m x).answer) e))
 
 -- the answers of the first i calls, and the room behind them
 abbrev pub room_after : Memory → List ℕ → List ℕ → ℕ → List ℕ
@@ -132,28 +126,16 @@ module _ (m₀ : Memory) (ws out : List ℕ) where
           (eqb-true (length ws) (5 * call_count ws) a.0, eqb-true (length out) (2 * call_count ws) a.1)
       go false q z = absurd (omega arith)
 
-  -- refused, and done
-  pub run-refused : (r : ℕ) → r ≡ run_refusal ws out → (r ≡ 0 → ⊥) → (r ≡ run_refusal ws out) × ((m₀ ≡ run_memory m₀ ws out) × (out ≡ run_answers m₀ ws out))
+  -- done
+  pub run-done : (i : ℕ) (m : Memory) (o : List ℕ) → 0 ≡ run_refusal ws out → i ≡ call_count ws → m ≡ run shanghai m₀ (decoded ws i) → o ≡ room_after m₀ ws out i
+      → (m ≡ run_memory m₀ ws out) × (o ≡ run_answers m₀ ws out)
   unfolding run_memory run_answers
-  run-refused r e n = go (run_refusal ws out) refl
-    where
-      go : (q : ℕ) → run_refusal ws out ≡ q
-          → (r ≡ run_refusal ws out) × ((m₀ ≡ unless_refused (run_refusal ws out) (run shanghai m₀ (calls_of ws)) m₀) × (out ≡ unless_refused (run_refusal ws out) (answer_words (answers_of shanghai m₀ (calls_of ws))) out))
-      go zero x = absurd (n (e ∙ x))
-      go (suc q) x = (e, rw x (refl, refl))
-
-  pub run-done : (r i : ℕ) (m : Memory) (o : List ℕ) → r ≡ run_refusal ws out → r ≡ 0 → i ≡ call_count ws → m ≡ run shanghai m₀ (decoded ws i) → o ≡ room_after m₀ ws out i
-      → (0 ≡ run_refusal ws out) × ((m ≡ run_memory m₀ ws out) × (o ≡ run_answers m₀ ws out))
-  unfolding run_memory run_answers
-  run-done r i m o e z k p f =
-      let q : run_refusal ws out ≡ 0 = sym e ∙ z in
+  run-done i m o e k p f =
+      let q : run_refusal ws out ≡ 0 = sym e in
       let l = run_known q in
       let h : length out ≤ 2 * call_count ws = omega arith in
       let d : drop (2 * call_count ws) out ≡ [] = drop_of_length-le out h in
       rw q (
-        refl,
-        (
-          p ∙ ap (λ (x : ℕ). run shanghai m₀ (decoded ws x)) k,
-          f ∙ ap (λ (x : ℕ). room_after m₀ ws out x) k ∙ ap (λ (x : List ℕ). answer_words (answers_of shanghai m₀ (calls_of ws)) ++ x) d ∙ append-nil (answer_words (answers_of shanghai m₀ (calls_of ws))),
-        ),
+        p ∙ ap (λ (x : ℕ). run shanghai m₀ (decoded ws x)) k,
+        f ∙ ap (λ (x : ℕ). room_after m₀ ws out x) k ∙ ap (λ (x : List ℕ). answer_words (answers_of shanghai m₀ (calls_of ws)) ++ x) d ∙ append-nil (answer_words (answers_of shanghai m₀ (calls_of ws))),
       )

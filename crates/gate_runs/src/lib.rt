@@ -2,18 +2,21 @@
 #![tactic(auto)]
 
 ghost use Rattle.std.specs.Prelude.{◌≡◌, [], ◌∷◌, ◌+◌, ◌*◌, ◌≤◌, length};
+ghost use Rattle.rules.specs.Numbers.{refusal_number};
 ghost use Rattle.rules.specs.Orders.{shanghai};
 ghost use Rattle.words.specs.Words.{stored};
 ghost use Rattle.claim.specs.Step.{memory, step};
+ghost use Rattle.gate.specs.Lent.{memory_in, Leaves};
 ghost use Rattle.gate_runs.specs.FromOpening.{FromOpening};
 ghost use Rattle.gate_runs.specs.Runs.{call_at, run_refusal, run_memory, run_answers};
 
+use gate::Gate;
 use gate_call::calls::call;
 use gate_open::open;
-use rules::calls::Call;
+use rules::calls::{Answer, Call};
 use rules::codes::call_of;
-use rules::refusals::OUT_OF_RANGE;
-use words::{store, word};
+use rules::refusals::{Refusal, refuse};
+use words::store;
 
 // Words a call, and words an answer.
 pub const CALL_WORDS: usize = 5;
@@ -21,89 +24,86 @@ pub const CALL_WORDS: usize = 5;
 pub const ANSWER_WORDS: usize = 2;
 
 // Call i of the words.
+#[tactic(auto, unfolding(crate::specs::Runs::call_at))]
 fn call_at(calls: &[u64], i: usize) -> Call
     requires { 5 * i + 5 ≤ length calls.now }
     ensures { result ≡ call_at calls.now i }
 {
-    let k = CALL_WORDS * i;
-    let code = word(calls, k);
-    let a = word(calls, k + 1);
-    let b = word(calls, k + 2);
-    let c = word(calls, k + 3);
-    let d = word(calls, k + 4);
-    call_of(code, a, b, c, d)
+    let words = &calls[CALL_WORDS * i..];
+    call_of(words[0], words[1], words[2], words[3], words[4])
 }
 
 // One turn: call i carried out, and its answer stored.
-fn turn(
-    register: &mut [u32],
-    book: &mut [u64],
-    places: &mut [u64],
-    calls: &[u64],
-    i: usize,
-    answers: &mut [u64],
-)
+fn turn(gate: &mut Gate<'_>, calls: &[u64], i: usize, answers: &mut [u64])
     requires { (5 * i + 5 ≤ length calls.now) × (2 * i + 2 ≤ length answers.old) }
-    ensures { (memory register.new book.new places.new ≡ (step shanghai (memory register.old book.old places.old) (call_at calls.now i)).memory)
-        × (answers.new ≡ stored answers.old (2 * i) ((step shanghai (memory register.old book.old places.old) (call_at calls.now i)).answer.refusal ∷ (step shanghai (memory register.old book.old places.old) (call_at calls.now i)).answer.number ∷ [])) }
+    ensures after { Leaves gate.old gate.new (step shanghai (memory_in gate.old) (call_at calls.now i)).memory }
+    ensures answers { let answer = (step shanghai (memory_in gate.old) (call_at calls.now i)).answer in
+        answers.new ≡ stored answers.old (2 * i) (answer.refusal ∷ answer.number ∷ []) }
 {
     let c = call_at(calls, i);
-    let answer = call(register, book, places, c);
+    let answer = Answer::from(call(gate, c));
     store(answers, ANSWER_WORDS * i, &[answer.refusal, answer.number]);
 }
 
-// 0, or 2 where the words are not five a call or the room for the answers not two.
-fn refusal_of_run(calls: &[u64], answers: &[u64]) -> u64
-    ensures { result ≡ run_refusal calls.now answers.now }
+// Refused where the words are not five a call or the room for the answers not two.
+#[tactic(auto, unfolding(crate::specs::Runs::run_refusal))]
+fn refusal_of_run(calls: &[u64], answers: &[u64]) -> Result<(), Refusal>
+    ensures { refusal_number result ≡ run_refusal calls.now answers.now }
 {
     let n = calls.len() / CALL_WORDS;
     let ok = (calls.len() == CALL_WORDS * n) & (answers.len() == ANSWER_WORDS * n);
-    if ok { 0 } else { OUT_OF_RANGE }
+    refuse(!ok, Refusal::OutOfRange)
 }
 
+// Kept (no plainer): the calls are read and the answers written, in two memories of the host.
 // Every call in order, each with its answer; nothing is done where the lengths do not fit.
-pub fn run(
+#[tactic(auto, unfolding(crate::specs::Runs::run_memory, crate::specs::Runs::run_answers))]
+pub fn run(gate: &mut Gate<'_>, calls: &[u64], answers: &mut [u64]) -> Result<(), Refusal>
+    ensures answer { refusal_number result ≡ run_refusal calls.now answers.old }
+    ensures after { Leaves gate.old gate.new (run_memory (memory_in gate.old) calls.now answers.old) }
+    ensures answers { answers.new ≡ run_answers (memory_in gate.old) calls.now answers.old }
+{
+    refusal_of_run(calls, answers)?;
+    let n = calls.len() / CALL_WORDS;
+    for i in 0..n {
+        turn(gate, calls, i, answers);
+    }
+    Ok(())
+}
+
+// Kept (proof): the same over the three memories one by one; a gate made of three parameters stands in a function of its own.
+fn run_lent(
     register: &mut [u32],
     book: &mut [u64],
     places: &mut [u64],
     calls: &[u64],
     answers: &mut [u64],
-) -> u64
-    ensures { (result ≡ run_refusal calls.now answers.old)
-        × ((memory register.new book.new places.new ≡ run_memory (memory register.old book.old places.old) calls.now answers.old)
-        × (answers.new ≡ run_answers (memory register.old book.old places.old) calls.now answers.old)) }
+) -> Result<(), Refusal>
+    ensures answer { refusal_number result ≡ run_refusal calls.now answers.old }
+    ensures after { memory register.new book.new places.new ≡ run_memory (memory register.old book.old places.old) calls.now answers.old }
+    ensures answers { answers.new ≡ run_answers (memory register.old book.old places.old) calls.now answers.old }
 {
-    let refusal = refusal_of_run(calls, answers);
-    if refusal != 0 {
-        return refusal;
-    }
-    let n = calls.len() / CALL_WORDS;
-    let mut i: usize = 0;
-    while i < n {
-        turn(register, book, places, calls, i, answers);
-        i += 1;
-    }
-    0
+    let mut gate = Gate {
+        register,
+        book,
+        places,
+    };
+    run(&mut gate, calls, answers)
 }
 
 // A fresh gate, and every call in order: the third demand is this function's contract.
+// Kept (no plainer): three slices: `open` reads the places beside two memories that it writes; over a gate a helper would lend it the three one by one.
 pub fn run_from_opening(
     register: &mut [u32],
     book: &mut [u64],
     places: &mut [u64],
     calls: &[u64],
     answers: &mut [u64],
-) -> u64
-    ensures { FromOpening (memory register.old book.old places.old) calls.now answers.old result
+) -> Result<(), Refusal>
+    ensures { FromOpening (memory register.old book.old places.old) calls.now answers.old (refusal_number result)
         (memory register.new book.new places.new) answers.new }
 {
-    let unfit = refusal_of_run(calls, answers);
-    if unfit != 0 {
-        return unfit;
-    }
-    let unopened = open(register, book, places);
-    if unopened != 0 {
-        return unopened;
-    }
-    run(register, book, places, calls, answers)
+    refusal_of_run(calls, answers)?;
+    open(register, book, places)?;
+    run_lent(register, book, places, calls, answers)
 }

@@ -6,14 +6,14 @@
 mod sink; // what is printed, until a write fails
 
 ghost use Rattle.std.specs.Prelude.{◌≡◌, ◌+◌, ◌≤◌, length, drop};
-ghost use Rattle.claim.specs.Step.{memory};
+ghost use Rattle.gate.specs.Lent.{memory_in, Leaves, SameLent};
 ghost use Rattle.day.specs.Day.{told_in};
 ghost use Rattle.day.specs.Pieces.{Done};
 
 use crate::sink::Sink;
 use book::layout::{BOOK, PLACE_WORDS};
-use columns::bytes::same_at;
 use day::{answer_lines, answer_load, answer_rest, keep_rest};
+use gate::Gate;
 use gate_listing::write;
 use gate_open::open;
 use listing::lines::ROW;
@@ -25,58 +25,42 @@ use std::io::{Read, Write};
 use std::process::ExitCode;
 use std::rt::Files;
 use std::{fs, io};
+use streams::read_text;
 
 // "Program `gateday` has N = 2,048": so many places, in words. (Lines and columns)
 const PLACES: usize = PLACE_WORDS * 2048;
 
-// One read into the buffer behind its first `filled` bytes. Answers how many bytes the buffer then has; no more than before at the input's end.
-fn read_behind<R: Read>(source: &mut R, input: &mut [u8], filled: usize) -> usize
-    requires { filled ≤ length input.old }
-    ensures { (filled ≤ result) × (result ≤ length input.old) }
-{
-    let room = input.len();
-    match source.read(&mut input[filled..room]) {
-        Ok(came) => filled + came,
-        Err(_) => filled,
-    }
-}
-
-// The lines of the text from `from` on, as many as there is room for answers, answered and printed. Answers how many bytes they took.
+// The text's lines, as many as there is room for answers, answered and printed. Answers how many bytes they took.
 fn print_some<W: Write>(
     sink: &mut Sink<W>,
-    register: &mut [u32],
-    book: &mut [u64],
-    places: &mut [u64],
+    gate: &mut Gate<'_>,
     text: &[u8],
-    from: usize,
     out: &mut [u8],
 ) -> usize
-    requires { from ≤ length text.now }
-    ensures { (from + result ≤ length text.now)
-        × (result ≡ (told_in out.old (memory register.old book.old places.old) (drop from text.now)).used)
-        × ((memory register.new book.new places.new) ≡ (told_in out.old (memory register.old book.old places.old) (drop from text.now)).memory) }
+    ensures used { (result ≤ length text.now) × (result ≡ (told_in out.old (memory_in gate.old) text.now).used) }
+    ensures after { Leaves gate.old gate.new (told_in out.old (memory_in gate.old) text.now).memory }
 {
-    let progress = answer_lines(register, book, places, &text[from..text.len()], out);
-    sink.print(out, progress.written);
+    let progress = answer_lines(gate, text, out);
+    sink.print(out.get(..progress.written));
     progress.used
 }
 
 // Every whole line of the text answered and printed. Answers how many bytes they took.
 fn print_lines<W: Write>(
     sink: &mut Sink<W>,
-    register: &mut [u32],
-    book: &mut [u64],
-    places: &mut [u64],
+    gate: &mut Gate<'_>,
     text: &[u8],
     out: &mut [u8],
 ) -> usize
     requires { 10 ≤ length out.old }
-    ensures { Done text.now (memory register.old book.old places.old) result (memory register.new book.new places.new) }
+    ensures done { Done text.now (memory_in gate.old) result (memory_in gate.new) }
+    ensures same { SameLent gate.old gate.new }
 {
     let mut from: usize = 0;
+    // Kept (no plainer): it counts no index; each turn goes on behind what the last one used.
     while from < text.len() {
-        let used = print_some(sink, register, book, places, text, from, out);
-        if used < 1 {
+        let used = print_some(sink, gate, &text[from..], out);
+        if used == 0 {
             return from;
         }
         from += used;
@@ -85,23 +69,12 @@ fn print_lines<W: Write>(
 }
 
 // "and at the end the listing": a line without line feed first, where one is left. (Lines and columns)
-fn print_end<W: Write>(
-    sink: &mut Sink<W>,
-    register: &[u32],
-    book: &[u64],
-    places: &[u64],
-    rest: usize,
-    out: &mut [u8],
-) {
+fn print_end<W: Write>(sink: &mut Sink<W>, gate: &Gate<'_>, rest: usize, out: &mut [u8]) {
     let n = answer_rest(rest, out);
-    sink.print(out, n);
-    let refusal = write(register, book, places, out);
-    if refusal != 0 {
-        return;
-    }
-    let groups = groups_enrolled(register);
-    if groups <= 64 {
-        sink.print(out, ROW * (groups as usize));
+    sink.print(out.get(..n));
+    if write(gate.register, gate.book, gate.places, out).is_ok() {
+        let groups = groups_enrolled(gate.register) as usize;
+        sink.print(out.get(..ROW.saturating_mul(groups)));
     }
 }
 
@@ -110,9 +83,7 @@ fn print_end<W: Write>(
 fn print_day<R: Read, W: Write>(
     source: &mut R,
     sink: &mut Sink<W>,
-    register: &mut [u32],
-    book: &mut [u64],
-    places: &mut [u64],
+    gate: &mut Gate<'_>,
     input: &mut [u8],
     out: &mut [u8],
 )
@@ -120,16 +91,18 @@ fn print_day<R: Read, W: Write>(
 {
     let mut filled: usize = 0;
     for _ in 0..u64::MAX {
-        let held = read_behind(source, input, filled);
-        if held <= filled {
-            print_end(sink, register, book, places, filled, out);
+        // no more comes at the input's end, or where a read failed
+        let came = source.read(&mut input[filled..]).unwrap_or(0);
+        if came == 0 {
+            print_end(sink, gate, filled, out);
             return;
         }
-        let used = print_lines(sink, register, book, places, &input[0..held], out);
+        let held = filled + came;
+        let used = print_lines(sink, gate, &input[..held], out);
         if sink.has_failed() {
             return;
         }
-        filled = keep_rest(input, used, held);
+        filled = keep_rest(&mut input[..held], used);
     }
 }
 
@@ -139,34 +112,6 @@ const MOST_PATH: usize = 4096;
 // One byte more than a file of ratios has: a file that fills it is none, whatever follows.
 const MOST_RATIOS: usize = FILE_BYTES + 1;
 
-// One read of a file into the text behind its first `filled` bytes. Answers how many bytes the text then has: no more than before at the file's end, and all of
-// them where the read failed, since what can't be read is no file of ratios.
-fn read_file_behind<R: Read>(file: &mut R, text: &mut [u8], filled: usize) -> usize
-    requires { filled ≤ length text.old }
-    ensures { (filled ≤ result) × (result ≤ length text.old) }
-{
-    let room = text.len();
-    match file.read(&mut text[filled..room]) {
-        Ok(came) => filled + came,
-        Err(_) => room,
-    }
-}
-
-// The file's bytes, as many as there is room for. Answers how many.
-fn read_ratios<R: Read>(file: &mut R, text: &mut [u8]) -> usize
-    ensures { result ≤ length text.old }
-{
-    let mut filled: usize = 0;
-    while filled < text.len() {
-        let held = read_file_behind(file, text, filled);
-        if held <= filled {
-            return filled;
-        }
-        filled = held;
-    }
-    filled
-}
-
 // The text of the file that the second argument names; no bytes where it can't be opened, as one whose name isn't UTF-8.
 fn ratios_named<E: Env + Files>(rt: &E, text: &mut [u8]) -> usize
     ensures { result ≤ length text.old }
@@ -175,11 +120,11 @@ fn ratios_named<E: Env + Files>(rt: &E, text: &mut [u8]) -> usize
     let Ok(n) = rt.arg(2, &mut path) else {
         return 0;
     };
-    let Ok(name) = str::from_utf8(&path[0..n]) else {
+    let Ok(name) = str::from_utf8(&path[..n]) else {
         return 0;
     };
     match fs::open(rt, name) {
-        Ok(mut file) => read_ratios(&mut file, text),
+        Ok(mut file) => read_text(&mut file, text),
         Err(_) => 0,
     }
 }
@@ -195,8 +140,8 @@ fn print_load<E: Env + Files, W: Write>(
 ) {
     let mut text = [0u8; MOST_RATIOS];
     let n = ratios_named(rt, &mut text);
-    let written = answer_load(register, book, places, &text[0..n], out);
-    sink.print(out, written);
+    let written = answer_load(register, book, places, &text[..n], out);
+    sink.print(out.get(..written));
 }
 
 // Whether the program has an argument of this number; 0 is its name.
@@ -209,13 +154,12 @@ fn has_arg<E: Env>(rt: &E, number: usize) -> bool {
 fn ratios_asked<E: Env>(rt: &E) -> bool {
     let mut word = [0u8; 16];
     match rt.arg(1, &mut word) {
-        Ok(n) => {
-            (has_arg(rt, 2) & !has_arg(rt, 3)) & ((n == 8) & same_at(&word, 0, b"--ratios"))
-        }
+        Ok(n) => word[..n] == b"--ratios"[..] && has_arg(rt, 2) && !has_arg(rt, 3),
         Err(_) => false,
     }
 }
 
+// Kept (no plainer): three slices here and at `print_load`: the gate is made after the load, which reads book and places alone.
 // A file of ratios loaded where one is named. Answers whether the day begins.
 fn begun<E: Env + Files, W: Write>(
     rt: &E,
@@ -243,17 +187,15 @@ fn main(rt: HostRuntime) -> io::Result<ExitCode> {
     let mut out = [0u8; 65530];
     let mut source = rt.stdin();
     let mut sink = Sink::new(rt.stdout());
-    open(&mut register, &mut book, &places);
-    if begun(&rt, &mut sink, &mut register, &book, &places, &mut out) {
-        print_day(
-            &mut source,
-            &mut sink,
-            &mut register,
-            &mut book,
-            &mut places,
-            &mut input,
-            &mut out,
-        );
+    if open(&mut register, &mut book, &places).is_ok()
+        && begun(&rt, &mut sink, &mut register, &book, &places, &mut out)
+    {
+        let mut gate = Gate {
+            register: &mut register,
+            book: &mut book,
+            places: &mut places,
+        };
+        print_day(&mut source, &mut sink, &mut gate, &mut input, &mut out);
     }
     sink.end()
 }

@@ -8,10 +8,9 @@ use mathlib.Core.List.{List, [], ◌∷◌}
 use Rattle.rules.specs.Orders.{Rule}
 use Rattle.rules.specs.Quotas.{old_ratios}
 use Rattle.rules.specs.OldRatios.{old_regular_rules}
-use Rattle.rules.specs.Loads.{loaded}
+use Rattle.rules.specs.Loads.{loaded, FileRead}
 use Rattle.rules.specs.Refusals.{refusal, unless_refused}
 use Rattle.rules.specs.declared.money.Millions.{Millions}
-use Rattle.rules.specs.declared.loads.RatioFile.{RatioFile}
 use Rattle.rules.specs.declared.calls.Call.{Call}
 use Rattle.rules.specs.declared.calls.Call.TheVariants.{Enrol, Attach, Detach, Regular, Raise, Withdraw, OwnQuota, Order, Fill, Cancel, Close}
 use Rattle.history.specs.Past.{History, at_opening}
@@ -44,7 +43,7 @@ module _ (N : ℕ) (rule : Rule) where
       go (suc r) = refl
 
   -- such a load, accepted or not, changes nothing while the ratios are the old ones
-  old_load : (h : History) (f : RatioFile) → h.ratios ≡ old_ratios → loaded f ≡ old_ratios → next_entry N rule h (Loaded f) ≡ h
+  old_load : (h : History) (f : FileRead) → h.ratios ≡ old_ratios → loaded f ≡ old_ratios → next_entry N rule h (Loaded f) ≡ h
   unfolding next_entry
   old_load h f e l = go (load_refusal N rule h f)
     where

@@ -1,12 +1,10 @@
 -- How the table of answers is written: the calls with plain numbers for their fields, the forms of a line, and the days that lines stand after.
 -- Nothing here is a rule: a field more of a call changes one line.
-use Rattle.std.specs.Prelude.{ℕ, zero, suc, ◌≡◌, List, [], ◌∷◌, ◌++◌, ℤ, pos}
-use Rattle.rules.specs.Money.{mils, millions}
+use Rattle.std.specs.Prelude.{ℕ, zero, suc, ◌≡◌, List, [], ◌∷◌, ◌++◌, ℤ, pos, Some, None}
+use Rattle.rules.specs.Money.{mils, millions, Limit}
 use Rattle.rules.specs.Quotas.{in_force}
 use Rattle.rules.specs.Orders.{shanghai}
 use Rattle.rules.specs.declared.kinds.Money.{Money}
-use Rattle.rules.specs.declared.quotas.Limit.{Limit}
-use Rattle.rules.specs.declared.quotas.Limit.TheVariants.{Nothing, At}
 use Rattle.rules.specs.declared.calls.Call.{Call}
 use Rattle.rules.specs.declared.calls.Call.TheVariants.{Enrol, Attach, Detach, Regular, Raise, Withdraw, OwnQuota, Order, Fill, Cancel, Close}
 use Rattle.rules.specs.declared.calls.Answer.{Answer}
@@ -93,10 +91,10 @@ Day lines = DayOf 4 lines
 
 -- what a listing shows of a group after the calls: maximum and own quota, "-" for none; net, open buys, bought, sold
 abbrev pub dash : Limit
-dash = Nothing
+dash = None
 
 abbrev pub at : ℕ → Limit
-at n = At (millions n)
+at n = Some (millions n)
 
 pub record Shown : Type 0 where
   pub maximum : Limit

@@ -1,1 +1,3 @@
 pub mod Lined
+pub mod Keyed
+pub mod Kept

@@ -1,21 +1,18 @@
--- One row: nine columns put one behind the other are the row's text, and what is read of a line that stands in a text. Assumes nothing.
-use Prim.Native.Nat.{ℕ, ◌+◌, ◌-◌, ◌≤◌, ◌<◌}
-use mathlib.Core.Path.{◌≡◌, refl, ap, sym, ◌∙◌}
-use mathlib.Core.Bool.{Bool, true, false, not}
+-- One row: nine columns put one behind the other are the row's text, and the line that stands at a place of a text. Assumes nothing.
+use Prim.Native.Nat.{ℕ, ◌+◌, ◌-◌, ◌≤◌}
+use mathlib.Core.Path.{◌≡◌, refl, ap, ◌∙◌}
+use mathlib.Core.Bool.{Bool, true}
 use mathlib.Core.List.{List, [], ◌∷◌, ◌++◌}
 use native.Mathlib.Omega.{arith}
-use borrow.Author.Tests.{le-leb, lt-leb, not-true, not-false}
 use lib.ListN.{length, take, drop, length-append}
 use lib.Seq.{paste, length-paste}
-use Rattle.columns.specs.Column.{column, optional_text, signed_text, fits, optional_fits, signed_fits, part, plain_at, plain_put, optional_put, signed_put, text_put}
+use Rattle.columns.specs.Column.{column, optional_text, signed_text, fits, optional_fits, signed_fits, part, plain_put, optional_put, signed_put, text_put}
 use Rattle.columns.specs.Laws.{length_marked, length_optional, length-signed}
 use Rattle.columns.specs.Pastes.{chain, plain_put_lem, optional_put_lem, signed-put, text_put_lem}
-use Rattle.columns.specs.declared.reading.Plain.{Plain}
 use Rattle.rows.specs.Row.{row_kept}
 use Rattle.rows.specs.declared.Row.{Row}
-use Rattle.listing.specs.Text.{is_set, millions_in, limit_put, limits_put, row_text, row_in, read_line, row_put, row_bytes}
+use Rattle.listing.specs.Text.{is_set, millions_in, limit_put, limits_put, row_text, row_bytes}
 use Rattle.listing.specs.RowLaws.{Fitting, fitting}
-use Rattle.listing.specs.declared.lines.Line.{Line}
 
 -- ---- written
 
@@ -72,34 +69,10 @@ row_written d at r d₁ d₂ d₄ d₅ d₆ d₇ d₈ d₉ h k e₁ e₂ e₄ e�
     let g₈ : Grown d at d₈ _ 107 = plain_more d at d₇ _ 86 21 g₇ (omega arith) d₈ r.money.sold.0 f.sold e₈ in
     (more d at d₈ _ 107 1 g₈ (omega arith) d₉ (10 ∷ []) refl (e₉ ∙ text_put_lem d₈ (at + 107) (10 ∷ []) (room d at d₈ _ 107 1 g₈ (omega arith)))).is
 
-module _ (d : List ℕ) (at : ℕ) (r : Row) (k : Bool) (is : k ≡ row_kept r) where
-  pub put_unruly : not k ≡ true → d ≡ row_put d at r
-  unfolding row_put
-  put_unruly n = rw (sym is ∙ not-true k n)
-
-  pub put_short : not k ≡ false → length d < at + row_bytes → d ≡ row_put d at r
-  unfolding row_put
-  put_short n h = rw (sym is ∙ not-false k n, lt-leb (at + row_bytes) (length d) h)
-
-  pub put_whole : (q : List ℕ) → not k ≡ false → at + row_bytes ≤ length d → q ≡ paste d at (row_text r) row_bytes → q ≡ row_put d at r
-  unfolding row_put
-  put_whole q n h e = rw (sym is ∙ not-false k n, le-leb (at + row_bytes) (length d) h) e
-
 -- ---- read
 
-cut : (t : List ℕ) (at : ℕ) → take (at + row_bytes - at) (drop at t) ≡ part t at row_bytes
+-- the bytes of a line at a place
+pub cut : (t : List ℕ) (at : ℕ) → take (at + row_bytes - at) (drop at t) ≡ part t at row_bytes
 cut t at =
     let e : at + row_bytes - at ≡ row_bytes = omega arith in
     ap (λ (n : ℕ). take n (drop at t)) e
-
-module _ (t : List ℕ) (at : ℕ) where
-  pub line-said : (l : Line) → l ≡ read_line (take (at + row_bytes - at) (drop at t)) → l ≡ read_line (part t at row_bytes)
-  line-said l e = e ∙ ap read_line (cut t at)
-
-  pub code_said : (p : Plain) → p ≡ plain_at (take (at + row_bytes - at) (drop at t)) 0 5 → p.number ≡ (row_in (part t at row_bytes)).code
-  unfolding row_in
-  code_said p e = ap (λ (x : Plain). x.number) (e ∙ ap (λ (l : List ℕ). plain_at l 0 5) (cut t at))
-
-  pub class_said : (p : Plain) → p ≡ plain_at (take (at + row_bytes - at) (drop at t)) 5 2 → p.number ≡ (row_in (part t at row_bytes)).class
-  unfolding row_in
-  class_said p e = ap (λ (x : Plain). x.number) (e ∙ ap (λ (l : List ℕ). plain_at l 5 2) (cut t at))

@@ -1,9 +1,8 @@
 -- Examples that pin the format, by computation: the laws hold of any format that can be read back. Document 01's row, a row with "-", a net
 -- below 0, no rows; and texts that are not listings. Assumes nothing.
-use Rattle.std.specs.Prelude.{ℕ, zero, suc, ◌≡◌, refl, true, false, List, [], ◌∷◌, ◌++◌}
+use Rattle.std.specs.Prelude.{ℕ, zero, suc, ◌≡◌, refl, true, false, List, [], ◌∷◌, ◌++◌, Some, None}
 use Prim.Native.String.{String}
 use Rattle.rules.specs.Money.{millions, mils}
-use Rattle.rules.specs.declared.quotas.Limit.TheVariants.{Nothing, At}
 use Rattle.columns.specs.Column.{byte_at, marked, dashed, number, digits, same, minus, read_plain, read_optional, read_signed, plain_at, optional_at, signed_at, same_at}
 use Rattle.columns.specs.Texts.{bytes}
 use Rattle.rows.specs.Row.{signed_net, row_obeys, row_kept}
@@ -31,24 +30,24 @@ paper_row =
     record {
       code = 1;
       class = 1;
-      maximum = At (millions 8);
-      own = At (millions 5);
+      maximum = Some (millions 8);
+      own = Some (millions 5);
       money = record { «open» = mils 2_500_000_000; bought = mils 1_240_000_000; sold = mils 0 };
       below = false;
       net = mils 3_740_000_000;
     }
 
 abbrev pub none_row : Row
-none_row = record { code = 1; class = 1; maximum = Nothing; own = Nothing; money = record { «open» = mils 0; bought = mils 0; sold = mils 0 }; below = false; net = mils 0 }
+none_row = record { code = 1; class = 1; maximum = None; own = None; money = record { «open» = mils 0; bought = mils 0; sold = mils 0 }; below = false; net = mils 0 }
 
 abbrev pub below_row : Row
 below_row =
-    record { code = 1; class = 1; maximum = At (millions 8); own = At (millions 0); money = record { «open» = mils 0; bought = mils 0; sold = mils 1 }; below = true; net = mils 1 }
+    record { code = 1; class = 1; maximum = Some (millions 8); own = Some (millions 0); money = record { «open» = mils 0; bought = mils 0; sold = mils 1 }; below = true; net = mils 1 }
 
 -- as many rows, of different codes
 unfoldable pub many : ℕ → List Row
 many zero = []
-many (suc n) = record { code = n; class = 4; maximum = Nothing; own = Nothing; money = record { «open» = mils 0; bought = mils 0; sold = mils 0 }; below = false; net = mils 0 } ∷ many n
+many (suc n) = record { code = n; class = 4; maximum = None; own = None; money = record { «open» = mils 0; bought = mils 0; sold = mils 0 }; below = false; net = mils 0 } ∷ many n
 
 -- written as this text, and read from it
 abbrev pub Written : Row → String → Type 0

@@ -11,7 +11,7 @@ use Rattle.columns.specs.Laws.{true_fits, length_marked, length_optional, length
 use Rattle.rows.specs.Row.{row_kept}
 use Rattle.rows.specs.Room.{room_of, room_small, room_sized}
 use Rattle.rows.specs.declared.Row.{Row}
-use Rattle.rows.specs.declared.Room.{Room}
+use Rattle.rows.specs.Room.{Room}
 use Rattle.listing.specs.Text.{is_listing, rows_in, rows_kept, fresh, listing_kept}
 use Rattle.listing.specs.Laws.{listing_only}
 

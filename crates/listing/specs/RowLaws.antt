@@ -1,19 +1,17 @@
 -- The laws of one row: its text is read back (`row-good`, `row_back`), and no other text is read as it (`good_text`, `good_kept`). Assumes nothing.
-use Rattle.std.specs.Prelude.{ℕ, ◌+◌, ◌≤◌, ◌≡◌, refl, Bool, true, false, ◌&&◌, List, [], ◌∷◌, ◌++◌, eqb, leb, length, take}
+use Rattle.std.specs.Prelude.{ℕ, ◌+◌, ◌≤◌, ◌≡◌, refl, Bool, true, false, ◌&&◌, List, [], ◌∷◌, ◌++◌, eqb, leb, length, take, Some, None}
 use Rattle.std.proofs.Common.{ap, sym, ◌∙◌, arith, leb-true, le-leb, eqb-true, take_all, take-add}
 use Rattle.std.proofs.lemmas.Bool.{false≢true}
 use Rattle.rules.specs.Tests.{pick, both}
 use Rattle.rules.specs.Limits.{top_quota, top_money}
-use Rattle.rules.specs.declared.quotas.Limit.{Limit}
-use Rattle.rules.specs.declared.quotas.Limit.TheVariants.{Nothing, At}
-use Rattle.rules.specs.Money.{millions}
+use Rattle.rules.specs.Money.{Limit, millions}
 use Rattle.columns.specs.Column.{marked, column, dashed, optional_text, signed_text, fits, optional_fits, signed_fits, same, read_plain, read_optional, read_signed, part, plain_at, optional_at, signed_at, same_at}
 use Rattle.columns.specs.Laws.{true_fits, plain_only, optional_only, signed_only, same_refl, same_true}
 use Rattle.columns.proofs.Laws.{plain_back, optional_back, signed_back}
 use Rattle.columns.specs.Pastes.{length_part, plain_read, optional_read, signed-read}
-use Rattle.columns.specs.declared.reading.Plain.{Plain}
-use Rattle.columns.specs.declared.reading.Optional.{Optional}
-use Rattle.columns.specs.declared.reading.Signed.{Signed}
+use Rattle.columns.specs.Reading.{Plain}
+use Rattle.columns.specs.Reading.{Optional}
+use Rattle.columns.specs.Reading.{Signed}
 use Rattle.rows.specs.Row.{limits_kept, row_kept}
 use Rattle.rows.specs.Kept.{Ruled, ruled}
 use Rattle.rows.specs.declared.Row.{Row}
@@ -23,10 +21,10 @@ use Rattle.listing.specs.Text.{is_set, millions_in, limit_text, row_text, limit_
 
 limit_fits : (maximum own : Limit) → limits_kept maximum own ≡ true
     → (optional_fits 8 (is_set maximum) (millions_in maximum) ≡ true) × (optional_fits 8 (is_set own) (millions_in own) ≡ true)
-limit_fits Nothing Nothing h = (refl, refl)
-limit_fits Nothing (At o) h = absurd (false≢true h)
-limit_fits (At m) Nothing h = absurd (false≢true (both (leb m.0 top_quota) false h).1)
-limit_fits (At m) (At o) h =
+limit_fits None None h = (refl, refl)
+limit_fits None (Some o) h = absurd (false≢true h)
+limit_fits (Some m) None h = absurd (false≢true (both (leb m.0 top_quota) false h).1)
+limit_fits (Some m) (Some o) h =
     let b = both (leb m.0 top_quota) (leb o.0 m.0) h in
     let w : m.0 ≤ top_quota = leb-true m.0 top_quota b.0 in
     let l : o.0 ≤ m.0 = leb-true o.0 m.0 b.1 in
@@ -84,13 +82,13 @@ record Columns (t : List ℕ) (code class : ℕ) (maximum own : Limit) (below : 
 columns : (code class : ℕ) (maximum own : Limit) (below : Bool) (net pending bought sold : ℕ)
     → Columns (text_of code class maximum own below net pending bought sold) code class maximum own below net pending bought sold
 unfolding marked dashed
-columns code class Nothing Nothing below net pending bought sold =
+columns code class None None below net pending bought sold =
     record { size = refl; code_at = refl; class_at = refl; maximum_at = refl; own_at = refl; net_at = refl; pending_at = refl; bought-at = refl; sold-at = refl; end_at = refl }
-columns code class Nothing (At o) below net pending bought sold =
+columns code class None (Some o) below net pending bought sold =
     record { size = refl; code_at = refl; class_at = refl; maximum_at = refl; own_at = refl; net_at = refl; pending_at = refl; bought-at = refl; sold-at = refl; end_at = refl }
-columns code class (At m) Nothing below net pending bought sold =
+columns code class (Some m) None below net pending bought sold =
     record { size = refl; code_at = refl; class_at = refl; maximum_at = refl; own_at = refl; net_at = refl; pending_at = refl; bought-at = refl; sold-at = refl; end_at = refl }
-columns code class (At m) (At o) below net pending bought sold =
+columns code class (Some m) (Some o) below net pending bought sold =
     record { size = refl; code_at = refl; class_at = refl; maximum_at = refl; own_at = refl; net_at = refl; pending_at = refl; bought-at = refl; sold-at = refl; end_at = refl }
 
 columns_of : (r : Row) → Columns (row_text r) r.code r.class r.maximum r.own r.below r.net.0 r.money.«open».0 r.money.bought.0 r.money.sold.0
@@ -116,8 +114,8 @@ module _ (t : List ℕ) (at w : ℕ) (h : at + w ≤ length t) where
       (ap (λ (x : Optional). x.formed) o, ap limit_of o ∙ same_limit limit)
     where
       same_limit : (l : Limit) → limit_of (record { formed = true; present = is_set l; number = pick (is_set l) (millions_in l) 0 }) ≡ l
-      same_limit Nothing = refl
-      same_limit (At q) = refl
+      same_limit None = refl
+      same_limit (Some q) = refl
 
 end_there : (t : List ℕ) → length t ≡ row_bytes → part t 107 1 ≡ 10 ∷ [] → same_at t 107 (10 ∷ []) ≡ true
 unfolding same_at
@@ -177,7 +175,7 @@ module _ (t : List ℕ) (at w : ℕ) (h : at + w ≤ length t) where
       o.0 ∙ ap (λ (k : ℕ). optional_text k (read_optional (part t at w)).present (read_optional (part t at w)).number) (length_part t at w h)
       ∙ ap (λ (x : Optional). optional_text w x.present x.number) (sym e) ∙ same_text (optional_at t at w).present (optional_at t at w).number
     where
-      same_text : (b : Bool) (n : ℕ) → optional_text w b n ≡ optional_text w (is_set (pick b (At (millions n)) Nothing)) (millions_in (pick b (At (millions n)) Nothing))
+      same_text : (b : Bool) (n : ℕ) → optional_text w b n ≡ optional_text w (is_set (pick b (Some (millions n)) None)) (millions_in (pick b (Some (millions n)) None))
       same_text true n = refl
       same_text false n = refl
 

@@ -1,18 +1,16 @@
 -- "A listing line is one group in enrolment order: code 5 columns, class 2, maximum 8, own quota 8, net 21, open buys 21, bought 21, sold 21,
 -- line feed." What is written for rows, and which texts are read as rows. A text is a list of bytes: 10 is the line feed. (Lines and columns)
-use Rattle.std.specs.Prelude.{ℕ, zero, suc, ◌+◌, ◌/◌, ◌%◌, Bool, true, false, not, ◌&&◌, List, [], ◌∷◌, ◌++◌, eqb, leb, length, take, drop}
+use Rattle.std.specs.Prelude.{ℕ, zero, suc, ◌+◌, ◌/◌, ◌%◌, Bool, true, false, not, ◌&&◌, List, [], ◌∷◌, ◌++◌, eqb, leb, length, take, drop, Option, Some, None}
 use Rattle.std.proofs.Math.Seq.{paste}
 use Rattle.rules.specs.Tests.{pick}
 use Rattle.rules.specs.Limits.{most_groups}
-use Rattle.rules.specs.Money.{millions, mils}
+use Rattle.rules.specs.Money.{millions, mils, Limit}
 use Rattle.rules.specs.Refusals.{malformed_number}
-use Rattle.rules.specs.declared.quotas.Limit.{Limit}
-use Rattle.rules.specs.declared.quotas.Limit.TheVariants.{Nothing, At}
 use Rattle.columns.specs.Column.{column, optional_text, signed_text, part, holds, plain_at, optional_at, signed_at, same_at, optional_put}
-use Rattle.columns.specs.declared.reading.Optional.{Optional}
+use Rattle.columns.specs.Reading.{Optional}
 use Rattle.rows.specs.Row.{row_kept}
 use Rattle.rows.specs.declared.Row.{Row}
-use Rattle.listing.specs.declared.lines.Line.{Line}
+use Rattle.listing.specs.declared.keys.Key.{Key}
 use Rattle.listing.specs.declared.reader.ListingReader.{ListingReader}
 use Rattle.listing.specs.declared.texts.Step.{Step}
 use Rattle.listing.specs.declared.texts.Step.TheVariants.{Next, Broken, End}
@@ -25,12 +23,12 @@ row_bytes = 108
 
 -- ""-" stands for a maximum of none, and then for own quota" (Lines and columns)
 abbrev pub is_set : Limit → Bool
-is_set Nothing = false
-is_set (At quota) = true
+is_set None = false
+is_set (Some quota) = true
 
 abbrev pub millions_in : Limit → ℕ
-millions_in Nothing = 0
-millions_in (At quota) = quota.0
+millions_in None = 0
+millions_in (Some quota) = quota.0
 
 abbrev pub limit_text : Limit → List ℕ
 limit_text limit = optional_text 8 (is_set limit) (millions_in limit)
@@ -43,7 +41,7 @@ row_text r =
 
 -- the row that the columns of a line say
 abbrev pub limit_of : Optional → Limit
-limit_of o = pick o.present (At (millions o.number)) Nothing
+limit_of o = pick o.present (Some (millions o.number)) None
 
 unfoldable pub row_in : List ℕ → Row
 row_in l =
@@ -68,8 +66,9 @@ row_formed l =
 unfoldable pub row_good : List ℕ → Bool
 row_good l = eqb (length l) row_bytes && (row_formed l && row_kept (row_in l))
 
-abbrev pub read_line : List ℕ → Line
-read_line l = record { good = row_good l; row = row_in l }
+-- what a line says: its row, where it is one
+abbrev pub read_line : List ℕ → Option Row
+read_line l = pick (row_good l) (Some (row_in l)) None
 
 -- put into a buffer from at on: a limit; the maximum, and behind it the own quota
 abbrev pub limit_put : List ℕ → ℕ → Limit → List ℕ
@@ -90,6 +89,9 @@ listing_text [] = []
 listing_text (r ∷ rs) = row_text r ++ listing_text rs
 
 -- "code with class not repeated" (Lines and columns)
+abbrev pub key_of : Row → Key
+key_of r = record { code = r.code; class = r.class }
+
 abbrev pub same_key : Row → Row → Bool
 same_key r s = eqb r.code s.code && eqb r.class s.class
 
@@ -125,8 +127,9 @@ abbrev pub refusal_of_text : List ℕ → ℕ
 refusal_of_text t = pick (not (is_listing t)) malformed_number 0
 
 -- "then hands out the rows one after the other": what stands at a place (Lines and columns)
-abbrev pub line_step : Line → Step
-line_step l = pick l.good (Next l.row) Broken
+abbrev pub line_step : Option Row → Step
+line_step None = Broken
+line_step (Some row) = Next row
 
 unfoldable pub step_at : List ℕ → ℕ → Step
 step_at t at = pick (holds (length t) at row_bytes) (line_step (read_line (part t at row_bytes))) End
@@ -144,7 +147,7 @@ unfoldable pub next_at : List ℕ → ℕ → ℕ
 next_at t at = pick (holds (length t) at row_bytes) (at + row_bytes) at
 
 abbrev pub moved_on : ListingReader → ListingReader
-moved_on r = record { text = r.text; at = next_at r.text.now r.at; refusal = r.refusal }
+moved_on r = record { text = r.text; at = next_at r.text.now r.at; checked = r.checked }
 
 -- what a case says: the refusal list's number, 0 for none
 abbrev pub number_of : Step → ℕ

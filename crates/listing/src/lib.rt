@@ -3,6 +3,7 @@
 // whole text. Every function that is open to outside is total.
 #![tactic(auto)]
 
+pub mod keys; // a row's code with its class
 pub mod lines; // one row as a line, written
 pub mod texts; // what stands at a place of a text
 pub mod reader; // the checked text and a position

@@ -7,17 +7,19 @@ use native.Mathlib.Numerals.{add-one}
 use native.Mathlib.Omega.{arith}
 use borrow.Author.Tests.{lt-ltb, le-ltb}
 use lib.ListN.{length, get_or, take}
-use lib.Seq.{paste, paste-zero, take_all, length-take-le}
+use lib.Seq.{paste, length-take-le}
 use Rattle.columns.specs.Column.{marked, column, plain_put, text_put}
 use Rattle.columns.specs.Laws.{length_marked}
 use Rattle.columns.specs.Pastes.{chain_on, plain_put_lem, text_put_lem}
 use Rattle.rows.specs.Row.{row_kept, no_row}
 use Rattle.rows.specs.Room.{room_of}
 use Rattle.rows.specs.declared.Row.{Row}
-use Rattle.listing.specs.Text.{is_listing, rows_in, refusal_of_text, step_of, row_bytes}
+use Rattle.listing.specs.Text.{is_listing, rows_in, refusal_of_text, step_in, row_bytes}
 use Rattle.listing.specs.RowLaws.{Fitting, fitting}
-use Rattle.listing.specs.Laws.{hands_out_checked, length-rows}
-use Rattle.rules.specs.Refusals.{malformed_number}
+use Rattle.listing.specs.Laws.{hands_out, length-rows}
+use Rattle.rules.specs.Refusals.{malformed_number, unless_refused}
+use Rattle.rules.specs.Numbers.{number_of, refused_is}
+use Rattle.rules.specs.declared.refusals.Refusal.{Refusal}
 use Rattle.listing.specs.Rooms.{room_bytes, most_room_bytes, rooms_of, rooms_put, rooms_length, refused_text, left_text, left_put, room_text, rooms_text, left_fits, length_rooms, rooms_last, take_last, row_keeps}
 use Rattle.listing.specs.declared.texts.Step.{Step}
 use Rattle.listing.specs.declared.texts.Step.TheVariants.{Next, Broken, End}
@@ -59,14 +61,10 @@ row_of (Next row) = row
 row_of Broken = no_row
 row_of End = no_row
 
-abbrev is_next : Step → Bool
-is_next (Next row) = true
-is_next Broken = false
-is_next End = false
-
-module _ (t : List ℕ) (i : ℕ) (h : is_listing t ≡ true) (l : i < length (rows_in t)) (s : Step) (e : s ≡ step_of t (row_bytes * i)) where
+module _ (t : List ℕ) (at n i : ℕ) (z : n ≡ 0) (p : at ≡ row_bytes * i) (h : is_listing t ≡ true) (l : i < length (rows_in t)) (s : Step) (e : s ≡ step_in t at n) where
   there : s ≡ Next (get_or (rows_in t) i no_row)
-  there = e ∙ hands_out_checked t i no_row h l
+  unfolding step_in
+  there = e ∙ rw (z, p) (hands_out t i no_row h l)
 
   pub row_is_lem : (row : Row) → s ≡ Next row → row ≡ get_or (rows_in t) i no_row
   row_is_lem row n = ap row_of (sym n ∙ there)
@@ -74,17 +72,10 @@ module _ (t : List ℕ) (i : ℕ) (h : is_listing t ≡ true) (l : i < length (r
   pub row_kept_lem : (row : Row) → s ≡ Next row → row_kept row ≡ true
   row_kept_lem row n = ap row_kept (row_is_lem row n) ∙ row_keeps t i no_row h l
 
-  pub never_broken : s ≡ Broken → ⊥
-  never_broken n = false≢true (ap is_next (sym n ∙ there))
-
-  pub never_ends : s ≡ End → ⊥
-  never_ends n = false≢true (ap is_next (sym n ∙ there))
+  pub only_next : ((row : Row) → s ≡ Next row → ⊥) → ⊥
+  only_next n = n (get_or (rows_in t) i no_row) there
 
 -- ---- the rows one after the other
-
-pub rooms_none : (t d : List ℕ) → d ≡ paste d 0 (rooms_text (take 0 (rows_in t))) (room_bytes * 0)
-unfolding rooms_text
-rooms_none t d = sym (paste-zero d 0 [])
 
 pub rooms_step : (t d p q : List ℕ) (i : ℕ) → i < length (rows_in t) → room_bytes * i + room_bytes ≤ length d
     → p ≡ paste d 0 (rooms_text (take i (rows_in t))) (room_bytes * i)
@@ -99,12 +90,6 @@ rooms_step t d p q i l h inv e =
     ap (λ (k : ℕ). rooms_text (take k (rows_in t))) (add-one i) ∙ ap rooms_text (take_last (rows_in t) i no_row l) ∙ rooms_last (take i (rows_in t)) (get_or (rows_in t) i no_row) in
     let n : room_bytes * i + room_bytes ≡ room_bytes * (i + 1) = omega arith in
     on ∙ ap (λ (x : List ℕ). paste d 0 x (room_bytes * i + room_bytes)) (sym text) ∙ ap (λ (k : ℕ). paste d 0 (rooms_text (take (i + 1) (rows_in t))) k) n
-
-pub rooms_end : (t d p : List ℕ) (i n : ℕ) → n ≡ length (rows_in t) → i ≤ n → n ≤ i → p ≡ paste d 0 (rooms_text (take i (rows_in t))) (room_bytes * i)
-    → p ≡ paste d 0 (rooms_text (rows_in t)) (room_bytes * n)
-rooms_end t d p i n e a b inv =
-    let same : i ≡ n = omega arith in
-    inv ∙ ap (λ (k : ℕ). paste d 0 (rooms_text (take k (rows_in t))) (room_bytes * k)) same ∙ ap (λ (x : List Row). paste d 0 (rooms_text x) (room_bytes * n)) (take_all n (rows_in t) (omega arith))
 
 -- ---- the line of a refusal
 
@@ -124,6 +109,15 @@ listing_known t e = go (is_listing t) refl
         let z : malformed_number ≡ 0 = rw b at e in
         absurd (omega (arith, z))
 
+pub never_listing : (t : List ℕ) (r : Refusal) → number_of r ≡ refusal_of_text t → is_listing t ≡ false
+never_listing t r e = go (is_listing t) refl
+  where
+    go : (b : Bool) → is_listing t ≡ b → is_listing t ≡ false
+    go false b = b
+    go true b =
+        let z : number_of r ≡ 0 = e ∙ rw b in
+        absurd (false≢true (sym (refused_is r true false) ∙ ap (λ (n : ℕ). unless_refused n true false) z))
+
 pub count_rows : (t : List ℕ) → length (rows_in t) ≡ length t / row_bytes
 unfolding rows_in
 count_rows t = length-rows (length t / row_bytes) t
@@ -133,18 +127,13 @@ module _ (t d : List ℕ) where
   unfolding rooms_length rooms_put
   put_short h = (rw (lt-ltb (length d) most_room_bytes h), rw (lt-ltb (length d) most_room_bytes h))
 
-  module _ (r : ℕ) (is : r ≡ refusal_of_text t) (h : most_room_bytes ≤ length d) (q : List ℕ) where
-    pub put_refused : (r ≡ 0 → ⊥) → q ≡ paste d 0 refused_text 4 → (4 ≡ rooms_length t (length d)) × (q ≡ rooms_put t d)
+  module _ (h : most_room_bytes ≤ length d) (q : List ℕ) where
+    pub put_refused : is_listing t ≡ false → q ≡ paste d 0 refused_text 4 → (4 ≡ rooms_length t (length d)) × (q ≡ rooms_put t d)
     unfolding rooms_length rooms_put rooms_of marked
-    put_refused n e = go (is_listing t) refl
-      where
-        go : (b : Bool) → is_listing t ≡ b → (4 ≡ rooms_length t (length d)) × (q ≡ rooms_put t d)
-        go true b = absurd (n (is ∙ rw b))
-        go false b = (rw (le-ltb (length d) most_room_bytes h, b), rw (le-ltb (length d) most_room_bytes h, b) e)
+    put_refused b e = (rw (le-ltb (length d) most_room_bytes h, b), rw (le-ltb (length d) most_room_bytes h, b) e)
 
-    pub put-listed : r ≡ 0 → q ≡ paste d 0 (rooms_text (rows_in t)) (room_bytes * (length t / row_bytes)) → (room_bytes * (length t / row_bytes) ≡ rooms_length t (length d)) × (q ≡ rooms_put t d)
+    pub put-listed : is_listing t ≡ true → q ≡ paste d 0 (rooms_text (rows_in t)) (room_bytes * (length t / row_bytes)) → (room_bytes * (length t / row_bytes) ≡ rooms_length t (length d)) × (q ≡ rooms_put t d)
     unfolding rooms_length rooms_put rooms_of
-    put-listed n e =
-        let b : is_listing t ≡ true = listing_known t (sym is ∙ n) in
+    put-listed b e =
         let size : room_bytes * (length t / row_bytes) ≡ length (rooms_text (rows_in t)) = ap (λ (x : ℕ). room_bytes * x) (sym (count_rows t)) ∙ sym (length_rooms (rows_in t)) in
         (rw (le-ltb (length d) most_room_bytes h, b) size, rw (le-ltb (length d) most_room_bytes h, b) (e ∙ ap (λ (x : ℕ). paste d 0 (rooms_text (rows_in t)) x) size))

@@ -2,73 +2,85 @@
 // listing/specs/Rooms.antt.
 #![tactic(auto)]
 
-ghost use Rattle.std.specs.Prelude.{◌≡◌, true, ◌+◌, ◌*◌, ◌≤◌, ◌<◌, length, get_or, take};
+ghost use Rattle.std.specs.Prelude.{◌≡◌, true, ◌+◌, ◌*◌, ◌≤◌, ◌<◌, length, get_or};
 ghost use Rattle.std.proofs.Math.Seq.{paste};
+ghost use Rattle.rules.specs.Numbers.{refusal_number};
 ghost use Rattle.rows.specs.Row.{row_kept, no_row};
-ghost use Rattle.listing.specs.Text.{is_listing, rows_in};
+ghost use Rattle.rows.specs.Room.{room_told};
+ghost use Rattle.listing.specs.Text.{is_listing, rows_in, moved_on, row_bytes};
 ghost use Rattle.listing.specs.Rooms.{room_bytes, left_put, room_text, rooms_text, refused_text, rooms_put, rooms_length};
 
 use columns::bytes::put_text;
+use columns::reading::Signed;
 use columns_write::written::{put_optional, put_plain, put_signed};
 use listing::lines::ROW;
+use listing::reader::ListingReader;
 use listing::texts::Step;
-use listing_reader::row_from;
-use listing_text::refusal_of_text;
-use rows::{Room, Row};
+use listing_reader::{hand_out, opened};
+use rows::{Net, Row};
 use rows_room::room_of;
-use rules::refusals::MALFORMED;
+use rules::limits::MOST_GROUPS;
+use rules::refusals::Refusal;
 
 // Bytes of a line, and of the lines of 64 rows.
 pub const ROOM: usize = 29;
 
-pub const MOST_ROOMS: usize = 1856;
+pub const MOST_ROOMS: usize = ROOM * MOST_GROUPS as usize;
 
-// The room in 21 columns, "-" where none is given.
-fn put_left(out: &mut [u8], at: usize, room: Room)
-    ensures { out.new ≡ left_put out.old at room }
+// The room in 21 columns, "-" where there is none.
+fn put_left(out: &mut [u8], at: usize, room: Option<Net>)
+    ensures { out.new ≡ left_put out.old at (room_told room) }
 {
-    let left = room.left;
-    let size = left.size;
-    if room.given {
-        put_signed(out, at, 21, left.below, size.0);
-    } else {
-        put_optional(out, at, 21, false, 0);
+    match room {
+        Some(left) => put_signed(
+            out,
+            at,
+            21,
+            Signed {
+                below: left.below,
+                size: left.size.0,
+            },
+        ),
+        None => put_optional(out, at, 21, None),
     }
 }
 
 // The line of a row that keeps its rules.
-fn put_room(out: &mut [u8], at: usize, row: Row)
-    requires { (at + room_bytes ≤ length out.old) × (row_kept row ≡ true) }
-    ensures { out.new ≡ paste out.old at (room_text row) room_bytes }
+fn put_room(line: &mut [u8], row: Row)
+    requires { (length line.old ≡ room_bytes) × (row_kept row ≡ true) }
+    ensures { line.new ≡ room_text row }
 {
-    put_plain(out, at, 5, row.code);
-    put_plain(out, at + 5, 2, row.class);
-    let room = room_of(row);
-    put_left(out, at + 7, room);
-    put_text(out, at + 28, b"\n");
+    put_plain(line, 0, 5, row.code);
+    put_plain(line, 5, 2, row.class);
+    put_left(line, 7, room_of(row));
+    put_text(line, 28, b"\n");
 }
 
-// The line of row i of a listing.
-fn put_next(text: &[u8], i: usize, out: &mut [u8])
-    requires { (is_listing text.now ≡ true) × ((i < length (rows_in text.now)) × (room_bytes * i + room_bytes ≤ length out.old)) }
-    ensures { out.new ≡ paste out.old (room_bytes * i) (room_text (get_or (rows_in text.now) i no_row)) room_bytes }
+// The line of row i of a listing, which the reader hands out next.
+fn put_next(reader: &mut ListingReader, i: usize, out: &mut [u8])
+    requires checked { refusal_number reader.old.checked ≡ 0 }
+    requires place { reader.old.at ≡ row_bytes * i }
+    requires there { (is_listing reader.old.text.now ≡ true) × (i < length (rows_in reader.old.text.now)) }
+    requires room { room_bytes * i + room_bytes ≤ length out.old }
+    ensures moved { reader.new ≡ moved_on reader.old }
+    ensures line { out.new ≡ paste out.old (room_bytes * i) (room_text (get_or (rows_in reader.old.text.now) i no_row)) room_bytes }
 {
-    match row_from(text, ROW * i) {
-        Step::Next(row) => put_room(out, ROOM * i, row),
-        Step::Broken => {}
-        Step::End => {}
+    if let Step::Next(row) = hand_out(reader) {
+        let at = ROOM * i;
+        put_room(&mut out[at..at + ROOM], row);
     }
 }
 
-// The lines of the n rows of a listing.
-fn put_rooms(text: &[u8], n: usize, out: &mut [u8])
-    requires { (is_listing text.now ≡ true) × ((n ≡ length (rows_in text.now)) × (room_bytes * n ≤ length out.old)) }
-    ensures { out.new ≡ paste out.old 0 (rooms_text (rows_in text.now)) (room_bytes * n) }
+// The lines of the n rows of a listing, by a reader at its start.
+fn put_rooms(mut reader: ListingReader, n: usize, out: &mut [u8])
+    requires checked { refusal_number reader.checked ≡ 0 }
+    requires place { reader.at ≡ 0 }
+    requires there { (is_listing reader.text.now ≡ true) × (n ≡ length (rows_in reader.text.now)) }
+    requires room { room_bytes * n ≤ length out.old }
+    ensures { out.new ≡ paste out.old 0 (rooms_text (rows_in reader.entry.text.now)) (room_bytes * n) }
 {
-    let mut i: usize = 0;
-    while i < n {
-        put_next(text, i, out);
-        i += 1;
+    for i in 0..n {
+        put_next(&mut reader, i, out);
     }
 }
 
@@ -77,7 +89,7 @@ fn put_refused(out: &mut [u8])
     requires { 4 ≤ length out.old }
     ensures { out.new ≡ paste out.old 0 refused_text 4 }
 {
-    put_plain(out, 0, 3, MALFORMED);
+    put_plain(out, 0, 3, u64::from(Refusal::Malformed));
     put_text(out, 3, b"\n");
 }
 
@@ -88,11 +100,16 @@ pub fn write_rooms(text: &[u8], out: &mut [u8]) -> usize
     if out.len() < MOST_ROOMS {
         return 0;
     }
-    if refusal_of_text(text) != 0 {
-        put_refused(out);
-        return 4;
+    let reader = opened(text);
+    match reader.checked {
+        Ok(()) => {
+            let n = text.len() / ROW;
+            put_rooms(reader, n, out);
+            ROOM * n
+        }
+        Err(_) => {
+            put_refused(out);
+            4
+        }
     }
-    let n = text.len() / ROW;
-    put_rooms(text, n, out);
-    ROOM * n
 }

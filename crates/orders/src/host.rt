@@ -1,6 +1,6 @@
 // What the host lends: every figure in its range, N as at opening. Refusal 1 comes before everything.
 ghost use Rattle.std.specs.Prelude.{◌≡◌};
-ghost use Rattle.orders.specs.Host.{host_ok, named_ok};
+ghost use Rattle.orders.specs.Host.{host_ok, is_given, named_ok};
 
 use book::check::{book_ok, place_ok};
 use book_money::accepted_of;
@@ -8,16 +8,24 @@ use book_places::place_at;
 use quota::asks::{groups_enrolled, is_sound};
 
 // Register, book and places are sound.
+#[tactic(auto, unfolding(crate::specs::Host::host_ok))]
 pub fn host_ok(register: &[u32], book: &[u64], places: &[u64]) -> bool
     ensures { result ≡ host_ok register.now book.now places.now }
 {
     is_sound(register) & book_ok(book, places, groups_enrolled(register))
 }
 
+// The number was given since the close.
+pub fn is_given(book: &[u64], order: u64) -> bool
+    ensures { result ≡ is_given book.now order }
+{
+    (1..=accepted_of(book)).contains(&order)
+}
+
 // The place of the order that a call names is sound, if that number was given since the close.
+#[tactic(auto, unfolding(crate::specs::Host::named_ok))]
 pub fn named_ok(register: &[u32], book: &[u64], places: &[u64], order: u64) -> bool
     ensures { result ≡ named_ok register.now book.now places.now order }
 {
-    let given = (1 <= order) & (order <= accepted_of(book));
-    !(given & !place_ok(place_at(places, order), groups_enrolled(register)))
+    !is_given(book, order) || place_ok(place_at(places, order), groups_enrolled(register))
 }

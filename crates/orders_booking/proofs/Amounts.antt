@@ -1,13 +1,13 @@
 -- The largest amount, amounts in their ranges, and the test of three totals against L. Assumes nothing.
-use Prim.Native.Nat.{ℕ, ◌+◌, ◌*◌, ◌-◌, ◌≤◌, ◌<◌}
-use mathlib.Core.Path.{◌≡◌, refl, sym, ap, ◌∙◌}
+use Prim.Native.Nat.{ℕ, ◌*◌, ◌≤◌}
+use mathlib.Core.Path.{◌≡◌, refl, ap, ◌∙◌}
 use mathlib.Core.Bool.{Bool, true, false, not, ◌&&◌}
 use native.Mathlib.Omega.{arith}
 use native.Mathlib.Nat.{le_trans, mul-le-mul_left, mul-le-mul_right}
-use borrow.Author.Tests.{leb-true, leb-false, le-leb, lt-leb}
+use borrow.Author.Tests.{leb-true, le-leb}
 use lib.Dec.{leb}
-use Rattle.rules.specs.Sums.{when, when_zero}
-use Rattle.rules.specs.Limits.{top_price, top_quantity, top_money}
+use Rattle.rules.specs.Sums.{when}
+use Rattle.rules.specs.Limits.{top_price, top_quantity}
 use Rattle.rules.specs.Orders.{is_buy}
 use Rattle.rules.specs.declared.money.Mils.{Mils}
 use Rattle.orders.specs.Booking.{amount_in_range}
@@ -30,15 +30,6 @@ unfolding when
 counted_most true p q r e = omega (arith, in_range_most p q)
 counted_most false p q r e = omega arith
 
--- out of range nothing is counted
-pub price_above : (b : Bool) (p : Mils) (q : ℕ) → top_price < p.0 → 0 ≡ when b (amount_in_range p q)
-unfolding amount_in_range when
-price_above b p q h = rw (lt-leb p.0 top_price h) (sym (when_zero b))
-
-pub quantity_above : (b : Bool) (p : Mils) (q : ℕ) → p.0 ≤ top_price → top_quantity < q → 0 ≡ when b (amount_in_range p q)
-unfolding amount_in_range when
-quantity_above b p q h k = rw (le-leb p.0 top_price h, lt-leb q top_quantity k) (sym (when_zero b))
-
 -- a price and a quantity in their ranges
 module _ (p : Mils) (q : ℕ) (h : p.0 ≤ top_price) (k : q ≤ top_quantity) where
   pub in_range_lem : amount_in_range p q ≡ p.0 * q
@@ -51,11 +42,3 @@ module _ (p : Mils) (q : ℕ) (h : p.0 ≤ top_price) (k : q ≤ top_quantity) w
 
   pub counted_other : (b : Bool) (kind r : ℕ) → r ≡ when (not b) (amount_in_range p q) → b ≡ is_buy kind → r ≡ when (not (is_buy kind)) (p.0 * q)
   counted_other b kind r e f = e ∙ ap (λ (n : ℕ). when (not b) n) in_range_lem ∙ ap (λ (t : Bool). when (not t) (p.0 * q)) f
-
--- what is left of L beside a and b
-pub rest_same : (a b c : ℕ) → a ≤ top_money → b ≤ top_money - a → leb c (top_money - a - b) ≡ leb (a + b + c) top_money
-rest_same a b c h k = go (leb c (top_money - a - b)) refl
-  where
-    go : (t : Bool) → leb c (top_money - a - b) ≡ t → t ≡ leb (a + b + c) top_money
-    go true e = sym (le-leb (a + b + c) top_money (omega (arith, leb-true c (top_money - a - b) e)))
-    go false e = sym (lt-leb (a + b + c) top_money (omega (arith, leb-false c (top_money - a - b) e)))

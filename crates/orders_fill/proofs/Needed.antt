@@ -8,10 +8,11 @@ use Rattle.rules.specs.declared.kinds.Money.{Money}
 use Rattle.book.specs.Layout.{money_at, place_at}
 use Rattle.book.specs.Known.{InMoney}
 use Rattle.book.specs.declared.places.Place.{Place}
-use Rattle.orders.specs.Booking.{booked_fill}
+use Rattle.orders.specs.Booking.{booked_fill, money_or_unsound}
+use Rattle.std.specs.Prelude.{Result}
+use Rattle.rules.specs.declared.refusals.Refusal.{Refusal}
 use Rattle.orders.specs.Calls.{fill_listed, fill_booked}
 use Rattle.orders.specs.Clear.{fill_clear}
-use Rattle.orders.specs.declared.booking.Booked.{Booked}
 
 module _ (rs bs ps : List ℕ) (k : ℕ) where
   pub fill_needs : (p : Mils) (q : ℕ) → fill_listed rs bs ps k p q ≡ 0 → (m : Money) (pl : Place) → pl ≡ place_at ps k → m ≡ money_at bs pl.group
@@ -24,5 +25,6 @@ module _ (rs bs ps : List ℕ) (k : ℕ) where
   pub fill_open : (p : Mils) (q : ℕ) → fill_listed rs bs ps k p q ≡ 0 → (pl : Place) → pl ≡ place_at ps k → q ≤ pl.«open»
   fill_open p q z pl f = rw f (fill_clear rs bs ps k p q z).open_most
 
-pub fill_done : (bs ps : List ℕ) (k : ℕ) (p : Mils) (q : ℕ) (m : Money) (pl : Place) (done : Booked) → done ≡ booked_fill m pl p q → pl ≡ place_at ps k → m ≡ money_at bs pl.group → done ≡ fill_booked bs ps k p q
-fill_done bs ps k p q m pl done d f e = d ∙ ap (λ (x : Money). booked_fill x pl p q) e ∙ ap (λ (y : Place). booked_fill (money_at bs y.group) y p q) f
+pub fill_done : (bs ps : List ℕ) (k : ℕ) (p : Mils) (q : ℕ) (m : Money) (pl : Place) (done : Result Money Refusal) → done ≡ money_or_unsound (booked_fill m pl p q) → pl ≡ place_at ps k → m ≡ money_at bs pl.group
+    → done ≡ money_or_unsound (fill_booked bs ps k p q)
+fill_done bs ps k p q m pl done d f e = d ∙ ap (λ (x : Money). money_or_unsound (booked_fill x pl p q)) e ∙ ap (λ (y : Place). money_or_unsound (booked_fill (money_at bs y.group) y p q)) f

@@ -3,50 +3,42 @@
 
 ghost use Rattle.std.specs.Prelude.{◌≡◌, ◌≤◌};
 ghost use Rattle.rules.specs.Limits.{top_price, top_quantity};
+ghost use Rattle.rules.specs.Numbers.{told};
 ghost use Rattle.rules.specs.Refusals.{answered};
 ghost use Rattle.book.specs.Known.{InMoney};
-ghost use Rattle.orders.specs.Booking.{booked_fill};
+ghost use Rattle.orders.specs.Booking.{booked_fill, money_or_unsound};
 ghost use Rattle.orders.specs.Calls.{fill_refusal, fill_book, fill_places};
 
 use book::places::Place;
 use book_money::{money_at, put_money};
 use book_places::{place_at, put_open};
-use orders::booking::Booked;
 use orders::refusals::listed_of_fill;
 use orders_booking::{booked_if_fits, counted};
-use rules::calls::{Answer, accepted_as, refused_by};
 use rules::kinds::Money;
 use rules::money::Mils;
-use rules::refusals::UNSOUND;
+use rules::refusals::{Refusal, refuse};
 use rules_kinds::is_buy;
 
 // The group's money after it: a buy's quantity leaves the open buys at the order's price and is bought at the fill's; another order's is sold at the fill's.
-fn booked_fill(money: Money, place: Place, price: Mils, quantity: u64) -> Booked
+#[tactic(auto, using(orders_booking::proofs::Amounts::counted_most))]
+fn booked_fill(money: Money, place: Place, price: Mils, quantity: u64) -> Result<Money, Refusal>
     requires { (InMoney money) × ((place.price.0 ≤ top_price) × ((price.0 ≤ top_price) × (quantity ≤ top_quantity))) }
-    ensures { result ≡ booked_fill money place price quantity }
+    ensures { result ≡ money_or_unsound (booked_fill money place price quantity) }
 {
-    let open = money.open;
-    let bought = money.bought;
-    let sold = money.sold;
-    let asked = place.price;
+    let Money { open, bought, sold } = money;
     let buy = is_buy(place.kind);
-    let taken = counted(buy, asked, quantity);
-    if open.0 < taken {
-        return Booked {
-            ok: false,
-            money: money,
-        };
-    }
+    let taken = counted(buy, place.price, quantity);
+    refuse(open.0 < taken, Refusal::Unsound)?;
     let more = counted(buy, price, quantity);
     let less = counted(!buy, price, quantity);
-    let after = Money {
+    booked_if_fits(Money {
         open: Mils(open.0 - taken),
         bought: Mils(bought.0 + more),
         sold: Mils(sold.0 + less),
-    };
-    booked_if_fits(money, after)
+    })
 }
 
+// Kept (rule): register, book and places one by one, as in `orders`; the rest are the fields of the call's variant.
 // Call 9. Fill: booked at its own price, its quantity off the order's open quantity.
 pub fn fill(
     register: &[u32],
@@ -55,22 +47,15 @@ pub fn fill(
     number: u64,
     price: Mils,
     quantity: u64,
-) -> Answer
-    ensures { (result ≡ answered (fill_refusal register.now book.old places.old number price quantity))
+) -> Result<u64, Refusal>
+    ensures { (told result ≡ answered (fill_refusal register.now book.old places.old number price quantity))
         × ((book.new ≡ fill_book register.now book.old places.old number price quantity)
         × (places.new ≡ fill_places register.now book.old places.old number price quantity)) }
 {
-    let listed = listed_of_fill(register, book, places, number, price, quantity);
-    if listed != 0 {
-        return refused_by(listed);
-    }
+    listed_of_fill(register, book, places, number, price, quantity)?;
     let place = place_at(places, number);
-    let booked = booked_fill(money_at(book, place.group), place, price, quantity);
-    if !booked.ok {
-        return refused_by(UNSOUND);
-    }
-    let money = booked.money;
+    let money = booked_fill(money_at(book, place.group), place, price, quantity)?;
     put_money(book, place.group, money);
     put_open(places, number, place.open - quantity);
-    accepted_as(0)
+    Ok(0)
 }

@@ -1,17 +1,19 @@
 // The refusals of calls 4 to 7 over the register: what the call reads, its list of rules, and 1 where the register is not sound.
+// Kept (no plainer): declarer, group, quota and flag are fields of a variant of `Call` (see `quota_declare`); four refusals of one shape, as in `quota_admit`.
 #![tactic(auto)]
 
 ghost use Rattle.std.specs.Prelude.{◌≡◌};
+ghost use Rattle.rules.specs.Numbers.{refusal_number};
 ghost use Rattle.quota.specs.Reads.{group_reads, figure_reads};
 ghost use Rattle.quota.specs.Calls.{regular_refusal, raise_refusal, withdraw_refusal, own_quota_refusal};
 
 use figures_declared::{is_full, stands};
-use register_check::register_ok;
+use quota::soundness::sound;
 use register_groups::{group_at, group_count};
 use register_ratios::ratios_of;
 use rules::declaring::{FigureReads, GroupReads};
 use rules::money::Millions;
-use rules::refusals::{UNSOUND, first};
+use rules::refusals::Refusal;
 use rules_declaring::declaring::{
     own_quota_refusal, raise_refusal, regular_refusal, withdraw_refusal,
 };
@@ -20,74 +22,68 @@ fn reads_of_group(register: &[u32], group: u64) -> GroupReads
     ensures { result ≡ group_reads register.now group }
 {
     let agreed = group_at(register, group as usize);
-    let quota = agreed.quota;
-    let enrolled = group < group_count(register);
     GroupReads {
-        enrolled: enrolled,
+        enrolled: group < group_count(register),
         code: agreed.code,
         class: agreed.class,
-        quota: quota,
+        quota: agreed.quota,
     }
 }
 
 fn reads_of_figures(register: &[u32], group: u64, declarer: u64) -> FigureReads
     ensures { result ≡ figure_reads register.now group declarer }
 {
-    let agreed = group_at(register, group as usize);
-    let figures = agreed.figures;
-    let standing = stands(figures, declarer);
-    let full = is_full(figures);
+    let figures = group_at(register, group as usize).figures;
     FigureReads {
-        standing: standing,
-        full: full,
+        standing: stands(figures, declarer),
+        full: is_full(figures),
     }
 }
 
+#[tactic(auto, unfolding(quota::specs::Calls::regular_refusal))]
 pub fn refusal_of_regular(
     register: &[u32],
     declarer: u64,
     group: u64,
     base: Millions,
     quota: Millions,
-) -> u64
-    ensures { result ≡ regular_refusal register.now declarer group base quota }
+) -> Result<(), Refusal>
+    ensures { refusal_number result ≡ regular_refusal register.now declarer group base quota }
 {
+    sound(register)?;
     let ratios = ratios_of(register);
     let reads = reads_of_group(register, group);
     let figures = reads_of_figures(register, group, declarer);
-    let r = regular_refusal(ratios, declarer, group, base, quota, reads, figures);
-    first(!register_ok(register), UNSOUND, r)
+    regular_refusal(ratios, declarer, group, base, quota, reads, figures)
 }
 
+#[tactic(auto, unfolding(quota::specs::Calls::raise_refusal))]
 pub fn refusal_of_raise(
     register: &[u32],
     declarer: u64,
     group: u64,
     quota: Millions,
     flag: u64,
-) -> u64
-    ensures { result ≡ raise_refusal register.now declarer group quota flag }
+) -> Result<(), Refusal>
+    ensures { refusal_number result ≡ raise_refusal register.now declarer group quota flag }
 {
-    let r = raise_refusal(
-        declarer,
-        group,
-        quota,
-        flag,
-        reads_of_group(register, group),
-    );
-    first(!register_ok(register), UNSOUND, r)
+    sound(register)?;
+    let reads = reads_of_group(register, group);
+    raise_refusal(declarer, group, quota, flag, reads)
 }
 
-pub fn refusal_of_withdraw(register: &[u32], declarer: u64, group: u64) -> u64
-    ensures { result ≡ withdraw_refusal register.now declarer group }
+#[tactic(auto, unfolding(quota::specs::Calls::withdraw_refusal))]
+pub fn refusal_of_withdraw(register: &[u32], declarer: u64, group: u64) -> Result<(), Refusal>
+    ensures { refusal_number result ≡ withdraw_refusal register.now declarer group }
 {
-    let r = withdraw_refusal(declarer, group, reads_of_group(register, group));
-    first(!register_ok(register), UNSOUND, r)
+    sound(register)?;
+    withdraw_refusal(declarer, group, reads_of_group(register, group))
 }
 
-pub fn refusal_of_own_quota(register: &[u32], group: u64, quota: Millions) -> u64
-    ensures { result ≡ own_quota_refusal register.now group quota }
+#[tactic(auto, unfolding(quota::specs::Calls::own_quota_refusal))]
+pub fn refusal_of_own_quota(register: &[u32], group: u64, quota: Millions) -> Result<(), Refusal>
+    ensures { refusal_number result ≡ own_quota_refusal register.now group quota }
 {
-    let r = own_quota_refusal(group, quota, reads_of_group(register, group));
-    first(!register_ok(register), UNSOUND, r)
+    sound(register)?;
+    own_quota_refusal(group, quota, reads_of_group(register, group))
 }

@@ -4,26 +4,26 @@ use Rattle.std.specs.Prelude.{ℕ, ◌≡◌, refl, Bool, true, false, ◌&&◌,
 use Rattle.std.proofs.Common.{ap, sym, ◌∙◌, arith, eqb-true, take_all, take-add, drop-cons}
 use Rattle.std.proofs.lemmas.Bool.{false≢true}
 use Rattle.rules.specs.Tests.{pick, both}
-use Rattle.rules.specs.declared.loads.RatioFile.{RatioFile}
+use Rattle.rules.specs.Loads.{FileRead as FileSaid}
 use Rattle.columns.specs.Column.{marked, plain_at, part}
 use Rattle.columns.specs.Pastes.{plain_at_only, length_part}
 use Rattle.ratiofile.specs.File.{line_bytes, file_bytes, line_text, file_text, line_fits, file_fits}
 use Rattle.ratiofile.specs.File.{line_in, first_line, second_line, third_line, file_formed, file_of, not_formed, file_in}
 use Rattle.ratiofile.specs.Laws.{length-file, line_back, FileRead}
 
-first_part : (f : RatioFile) → part (file_text f) 0 line_bytes ≡ line_text f.first
+first_part : (f : FileSaid) → part (file_text f) 0 line_bytes ≡ line_text f.first
 unfolding file_text line_text marked
 first_part f = refl
 
-second-part : (f : RatioFile) → part (file_text f) 11 line_bytes ≡ line_text f.second
+second-part : (f : FileSaid) → part (file_text f) 11 line_bytes ≡ line_text f.second
 unfolding file_text line_text marked
 second-part f = refl
 
-third_part : (f : RatioFile) → part (file_text f) 22 line_bytes ≡ line_text f.third
+third_part : (f : FileSaid) → part (file_text f) 22 line_bytes ≡ line_text f.third
 unfolding file_text line_text marked
 third_part f = refl
 
-pub file_back : (f : RatioFile) → file_fits f ≡ true → file_in (file_text f) ≡ file_of true f.first f.second f.third
+pub file_back : (f : FileSaid) → file_fits f ≡ true → file_in (file_text f) ≡ file_of true f.first f.second f.third
 unfolding file_in file_formed file_fits
 file_back f h =
     let g = both (line_fits f.first) (line_fits f.second && line_fits f.third) h in
@@ -98,7 +98,7 @@ pub file_only : (t : List ℕ) → (file_in t).formed ≡ true → FileRead t (f
 unfolding file_in
 file_only t h = go (file_formed t) refl h
   where
-    given : RatioFile
+    given : FileSaid
     given = file_of true (first_line t).numbers (second_line t).numbers (third_line t).numbers
 
     go : (b : Bool) → file_formed t ≡ b → (pick b given not_formed).formed ≡ true → FileRead t (pick b given not_formed)

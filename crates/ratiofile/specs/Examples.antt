@@ -3,7 +3,7 @@
 use Rattle.std.specs.Prelude.{ℕ, ◌≡◌, refl, true, false, set}
 use Prim.Native.String.{String, ◌++◌}
 use Rattle.rules.specs.declared.loads.RatioLine.{RatioLine}
-use Rattle.rules.specs.declared.loads.RatioFile.{RatioFile}
+use Rattle.rules.specs.Loads.{FileRead}
 use Rattle.columns.specs.Column.{byte_at, marked, number, digits, same, read_plain, plain_at}
 use Rattle.columns.specs.Texts.{bytes}
 use Rattle.ratiofile.specs.File.{line_text, file_text, line_in, file_formed, file_of, file_in}
@@ -12,11 +12,11 @@ abbrev line : ℕ → ℕ → ℕ → RatioLine
 line class numerator denominator = record { class = class; numerator = numerator; denominator = denominator }
 
 -- the text is what is written for the file, and the file is what is read from the text
-abbrev Says : String → RatioFile → Type 0
+abbrev Says : String → FileRead → Type 0
 Says t f = (file_text f ≡ bytes t) × (file_in (bytes t) ≡ f)
 
 -- of a text that is not formed nothing is kept
-abbrev nothing : RatioFile
+abbrev nothing : FileRead
 nothing = file_of false (line 0 0 0) (line 0 0 0) (line 0 0 0)
 
 abbrev NotFormed : String → Type 0

@@ -6,9 +6,8 @@ use Rattle.std.proofs.Common.{sym, append_assoc, arith, lt-ltb, length-append}
 use Rattle.std.proofs.lemmas.Bool.{false≢true}
 use Rattle.rules.specs.Tests.{pick, both, within_true}
 use Rattle.rules.specs.Limits.{is_class, is_ratio}
-use Rattle.rules.specs.Loads.{line_in_range, file_in_range}
+use Rattle.rules.specs.Loads.{line_in_range, file_in_range, FileRead as FileSaid}
 use Rattle.rules.specs.declared.loads.RatioLine.{RatioLine}
-use Rattle.rules.specs.declared.loads.RatioFile.{RatioFile}
 use Rattle.columns.specs.Column.{marked, column, fits, plain_at}
 use Rattle.columns.specs.Laws.{length_marked}
 use Rattle.columns.proofs.Pastes.{plain_at_back}
@@ -21,7 +20,7 @@ pub length-line : (l : RatioLine) → length (line_text l) ≡ line_bytes
 unfolding line_text
 length-line l = simp (length-append, length_marked)
 
-pub length-file : (f : RatioFile) → length (file_text f) ≡ file_bytes
+pub length-file : (f : FileSaid) → length (file_text f) ≡ file_bytes
 unfolding file_text
 length-file f = simp (length-append, length-line)
 
@@ -77,7 +76,7 @@ line_in_range_lem l h =
     line-room l a b c
 
 -- a file that a load may take has room in its columns, so it is read back
-pub in_range_fits : (f : RatioFile) → file_in_range f ≡ true → file_fits f ≡ true
+pub in_range_fits : (f : FileSaid) → file_in_range f ≡ true → file_fits f ≡ true
 unfolding file_fits
 in_range_fits f h =
     let g = both (line_in_range f.first) (line_in_range f.second && line_in_range f.third) h in
@@ -87,7 +86,7 @@ in_range_fits f h =
 -- ---- whatever is read is what is written for it
 
 -- the text is what is written, with room for the numbers
-pub record FileRead (t : List ℕ) (f : RatioFile) : Type 0 where
+pub record FileRead (t : List ℕ) (f : FileSaid) : Type 0 where
   pub text : t ≡ file_text f
   pub room : file_fits f ≡ true
   pub bytes : length t ≡ file_bytes
@@ -97,7 +96,7 @@ pub file-none : (t : List ℕ) → (file_in t).formed ≡ false → file_in t �
 unfolding file_in
 file-none t h = go (file_formed t) h
   where
-    given : RatioFile
+    given : FileSaid
     given = file_of true (first_line t).numbers (second_line t).numbers (third_line t).numbers
 
     go : (b : Bool) → (pick b given not_formed).formed ≡ false → pick b given not_formed ≡ not_formed

@@ -2,69 +2,42 @@
 #![tactic(auto)]
 
 ghost use Rattle.std.specs.Prelude.{◌≡◌, length};
-ghost use Rattle.ratiofile.specs.File.{line_bytes, line_in, not_formed, file_in};
+ghost use Rattle.rules.specs.Loads.{read_as};
+ghost use Rattle.ratiofile.specs.File.{line_bytes, formed_line, line_in, file_in};
 
 use columns_read::plain_at;
-use ratiofile::layout::FILE_BYTES;
-use ratiofile::reading::Line;
+use ratiofile::layout::{FILE_BYTES, LINE_BYTES};
 use rules::loads::{RatioFile, RatioLine};
 
 // "class, numerator and denominator .., in columns of 2, 4 and 4, line feed" (2026-01)
-fn line_in(line: &[u8]) -> Line
+#[tactic(auto, using(crate::proofs::Answers::line_says_is))]
+fn line_in(line: &[u8]) -> Option<RatioLine>
     requires { length line.now ≡ line_bytes }
-    ensures { result ≡ line_in line.now }
+    ensures { result ≡ formed_line (line_in line.now) }
 {
-    let class = plain_at(line, 0, 2);
-    let numerator = plain_at(line, 2, 4);
-    let denominator = plain_at(line, 6, 4);
-    let feed = line[10] == b'\n';
-    let formed = class.formed & (numerator.formed & (denominator.formed & feed));
     let numbers = RatioLine {
-        class: class.number,
-        numerator: numerator.number,
-        denominator: denominator.number,
+        class: plain_at(line, 0, 2)?,
+        numerator: plain_at(line, 2, 4)?,
+        denominator: plain_at(line, 6, 4)?,
     };
-    Line { formed, numbers }
-}
-
-// Of a text that is not formed nothing is kept.
-fn not_formed() -> RatioFile
-    ensures { result ≡ not_formed }
-{
-    let none = RatioLine {
-        class: 0,
-        numerator: 0,
-        denominator: 0,
-    };
-    RatioFile {
-        formed: false,
-        first: none,
-        second: none,
-        third: none,
+    if line[10] != b'\n' {
+        return None;
     }
+    Some(numbers)
 }
 
 // "The file is three lines": the nine numbers of a text that is formed, whatever they are. `rules` refuses numbers out of range and classes out of order.
 // (2026-01)
-pub fn read_file(text: &[u8]) -> RatioFile
-    ensures { result ≡ file_in text.now }
+#[tactic(auto, using(crate::proofs::Answers::file_long, crate::proofs::Answers::file_says_is))]
+pub fn read_file(text: &[u8]) -> Option<RatioFile>
+    ensures { read_as result ≡ file_in text.now }
 {
     if text.len() != FILE_BYTES {
-        return not_formed();
+        return None;
     }
-    let first = line_in(&text[0..11]);
-    let second = line_in(&text[11..22]);
-    let third = line_in(&text[22..33]);
-    if !(first.formed & (second.formed & third.formed)) {
-        return not_formed();
-    }
-    let one = first.numbers;
-    let two = second.numbers;
-    let three = third.numbers;
-    RatioFile {
-        formed: true,
-        first: one,
-        second: two,
-        third: three,
-    }
+    Some(RatioFile {
+        first: line_in(&text[..LINE_BYTES])?,
+        second: line_in(&text[LINE_BYTES..2 * LINE_BYTES])?,
+        third: line_in(&text[2 * LINE_BYTES..])?,
+    })
 }

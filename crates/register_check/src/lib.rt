@@ -1,115 +1,96 @@
 // The self check in columns: every figure of the enrolled groups and of the attached units is in its range, and so are the counts and the ratios. Three loops
 // without early exit beside the ratios': the seven scalars of a group, a declarer with its figure, a unit with its group. Each loop reads neighbours in memory,
 // so the compiler takes four at a time.
-#![tactic(auto)]
+#![tactic(auto, using(words::specs::Each::below_none, words::specs::Each::below_turn))]
 
-ghost use Rattle.std.specs.Prelude.{◌≡◌, ◌≤◌, ◌<◌, length};
+ghost use Rattle.std.specs.Prelude.{◌≡◌, ◌≤◌, ◌<◌};
 ghost use Rattle.words.specs.Each.{all_below};
 ghost use Rattle.register.specs.Check.{unit_ok, ratio_ok, register_ok};
 ghost use Rattle.register.specs.Columns.{scalars_ok, declared_ok};
-ghost use Rattle.register.specs.Layout.{register_length};
 
 use register::layout::{
     CLASS_COLUMN, EMERGENCY_COLUMN, FIRST_DECLARER, FIRST_FIGURE, FIRST_SCALAR, FIRST_UNIT,
     FIRST_UNIT_GROUP, GROUPS, HOLDER_COLUMN, RATIO_WORDS, RATIOS, REGISTER, SCALARS, UNITS,
 };
+use words::whole;
 
+// Kept (rule): this crate names `words` and `register` alone (crates.txt): the numbers stand here and in specs/Check.antt, `most_words`, held to each other.
 // The greatest values of code, class, maximum, own quota, holder, emergency figure, figures standing.
-const MOST: [u32; 7] = [99_999, 4, 10_000_000, 10_000_000, 200_000, 9_999_999, 8];
+const MOST: [u32; SCALARS] = [99_999, 4, 10_000_000, 10_000_000, 200_000, 9_999_999, 8];
 
 // The scalars of group i: at most their greatest values, the class 1 or more, and no figure where nobody holds an emergency.
-fn scalars_ok(register: &[u32], i: usize) -> bool
-    requires { (length register.now ≡ register_length) × (i < 64) }
+#[tactic(auto, using(words::specs::Each::below_none, words::specs::Each::below_turn), unfolding(register::specs::Columns::scalars_ok))]
+fn scalars_ok(register: &[u32; REGISTER], i: usize) -> bool
+    requires { i < 64 }
     ensures { result ≡ scalars_ok register.now i }
 {
-    let most = MOST;
     let mut ok = true;
-    let mut k: usize = 0;
-    while k < SCALARS {
-        ok = ok & (register[FIRST_SCALAR + 64 * k + i] <= most[k]);
-        k += 1;
+    for k in 0..SCALARS {
+        ok &= register[FIRST_SCALAR + 64 * k + i] <= MOST[k];
     }
     ((1 <= register[CLASS_COLUMN + i])
-        & !((register[HOLDER_COLUMN + i] == 200_000) & !(register[EMERGENCY_COLUMN + i] == 0)))
+        & !((register[HOLDER_COLUMN + i] == 200_000) & (register[EMERGENCY_COLUMN + i] != 0)))
         & ok
 }
 
-fn all_scalars_ok(register: &[u32], n: usize) -> bool
-    requires { (length register.now ≡ register_length) × (n ≤ 64) }
+// Kept (no plainer): n, groups or units or declarers, beside the register: their columns lie apart in one memory, and a slice of it is none of them.
+fn all_scalars_ok(register: &[u32; REGISTER], n: usize) -> bool
+    requires { n ≤ 64 }
     ensures { result ≡ all_below n (scalars_ok register.now) }
 {
     let mut ok = true;
-    let mut i: usize = 0;
-    while i < n {
-        ok = ok & scalars_ok(register, i);
-        i += 1;
+    for i in 0..n {
+        ok &= scalars_ok(register, i);
     }
     ok
 }
 
 // The first n declarers, counted over all groups, and their figures.
-fn declared_ok(register: &[u32], n: usize) -> bool
-    requires { (length register.now ≡ register_length) × (n ≤ 512) }
+fn declared_ok(register: &[u32; REGISTER], n: usize) -> bool
+    requires { n ≤ 512 }
     ensures { result ≡ all_below n (declared_ok register.now) }
 {
     let mut ok = true;
-    let mut j: usize = 0;
-    while j < n {
-        ok = ok
-            & ((register[FIRST_DECLARER + j] <= 99_999)
-                & (register[FIRST_FIGURE + j] <= 9_999_999));
-        j += 1;
+    for j in 0..n {
+        ok &= (register[FIRST_DECLARER + j] <= 99_999) & (register[FIRST_FIGURE + j] <= 9_999_999);
     }
     ok
 }
 
-fn unit_ok(register: &[u32], k: usize) -> bool
-    requires { (length register.now ≡ register_length) × (k < 256) }
-    ensures { result ≡ unit_ok register.now k }
-{
-    (register[FIRST_UNIT + k] <= 99_999) & (register[FIRST_UNIT_GROUP + k] < register[GROUPS])
-}
-
-fn units_ok(register: &[u32], n: usize) -> bool
-    requires { (length register.now ≡ register_length) × (n ≤ 256) }
+fn units_ok(register: &[u32; REGISTER], n: usize) -> bool
+    requires { n ≤ 256 }
     ensures { result ≡ all_below n (unit_ok register.now) }
 {
     let mut ok = true;
-    let mut k: usize = 0;
-    while k < n {
-        ok = ok & unit_ok(register, k);
-        k += 1;
+    for k in 0..n {
+        ok &= (register[FIRST_UNIT + k] <= 99_999)
+            & (register[FIRST_UNIT_GROUP + k] < register[GROUPS]);
     }
     ok
 }
 
 // The words of the ratios: "both 1 to 100" (2026-01).
-fn ratios_ok(register: &[u32]) -> bool
-    requires { length register.now ≡ register_length }
+fn ratios_ok(register: &[u32; REGISTER]) -> bool
     ensures { result ≡ all_below 6 (ratio_ok register.now) }
 {
     let mut ok = true;
-    let mut j: usize = 0;
-    while j < RATIO_WORDS {
-        ok = ok & ((1 <= register[RATIOS + j]) & (register[RATIOS + j] <= 100));
-        j += 1;
+    for j in 0..RATIO_WORDS {
+        ok &= (1 <= register[RATIOS + j]) & (register[RATIOS + j] <= 100);
     }
     ok
 }
 
 // Every figure of the register is in its range.
+#[tactic(auto, using(register::specs::Columns::columns, std::proofs::lemmas::Grind::common_steps), unfolding(register::specs::Check::register_ok))]
 pub fn register_ok(register: &[u32]) -> bool
     ensures { result ≡ register_ok register.now }
 {
-    if register.len() != REGISTER {
+    let Some(register) = whole(register) else {
         return false;
-    }
+    };
     let groups = register[GROUPS];
     let units = register[UNITS];
-    if 64 < groups {
-        return false;
-    }
-    if 256 < units {
+    if 64 < groups || 256 < units {
         return false;
     }
     let n = groups as usize;

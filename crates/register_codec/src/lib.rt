@@ -5,64 +5,50 @@ ghost use Rattle.std.specs.Prelude.{◌≡◌};
 ghost use Rattle.register.specs.Layout.{limit_of, limit_word, emergency_of, holder_word, figure_word};
 
 use rules::money::Millions;
-use rules::quotas::{Emergency, Limit};
+use rules::quotas::Emergency;
 
 // A maximum or an own quota from its word.
-pub fn limit_of(word: u64) -> Limit
+pub fn limit_of(word: u64) -> Option<Millions>
     ensures { result ≡ limit_of word }
 {
     if word <= 9_999_999 {
-        return Limit::At(Millions(word));
+        Some(Millions(word))
+    } else {
+        None
     }
-    Limit::Nothing
 }
 
-pub fn limit_word(limit: Limit) -> u64
+pub fn limit_word(limit: Option<Millions>) -> u64
     ensures { result ≡ limit_word limit }
 {
-    match limit {
-        Limit::Nothing => 10_000_000,
-        Limit::At(quota) => quota.0,
-    }
+    limit.map_or(10_000_000, |quota| quota.0)
 }
 
 // An emergency raise from the words of its holder and its figure.
 pub fn emergency_of(holder: u64, figure: u64) -> Emergency
     ensures { result ≡ emergency_of holder figure }
 {
-    if holder <= 99_999 {
-        return Emergency::Held {
+    let figure = Millions(figure);
+    match holder {
+        0..=99_999 => Emergency::Held {
             declarer: holder,
-            figure: Millions(figure),
-        };
-    }
-    if holder <= 199_999 {
-        return Emergency::Filed {
+            figure,
+        },
+        100_000..=199_999 => Emergency::Filed {
             declarer: holder - 100_000,
-            figure: Millions(figure),
-        };
+            figure,
+        },
+        _ => Emergency::Nobody,
     }
-    Emergency::Nobody
 }
 
 pub fn holder_word(emergency: Emergency) -> u64
     ensures { result ≡ holder_word emergency }
 {
     match emergency {
-        Emergency::Nobody => 200_000,
-        Emergency::Held {
-            declarer,
-            figure: _,
-        } => declarer,
-        Emergency::Filed {
-            declarer,
-            figure: _,
-        } => {
-            if declarer <= 99_999 {
-                return declarer + 100_000;
-            }
-            200_000
-        }
+        Emergency::Held { declarer, .. } => declarer,
+        Emergency::Filed { declarer, .. } if declarer <= 99_999 => declarer + 100_000,
+        _ => 200_000,
     }
 }
 
@@ -71,13 +57,6 @@ pub fn figure_word(emergency: Emergency) -> u64
 {
     match emergency {
         Emergency::Nobody => 0,
-        Emergency::Held {
-            declarer: _,
-            figure,
-        } => figure.0,
-        Emergency::Filed {
-            declarer: _,
-            figure,
-        } => figure.0,
+        Emergency::Held { figure, .. } | Emergency::Filed { figure, .. } => figure.0,
     }
 }

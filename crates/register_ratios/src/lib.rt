@@ -7,17 +7,15 @@ ghost use Rattle.register.specs.Layout.{held, first_declarer, ratios_of, put_rat
 
 use register::layout::RATIOS;
 use rules::quotas::{Ratio, Ratios};
-use words::{low, word32};
+use words::{low, word_or};
 
 fn ratio_at(register: &[u32], k: usize) -> Ratio
     requires { k < first_declarer }
     ensures { result ≡ ratio_of (get_or register.now k 0) (get_or register.now (k + 1) 0) }
 {
-    let numerator = word32(register, k);
-    let denominator = word32(register, k + 1);
     Ratio {
-        numerator: numerator,
-        denominator: denominator,
+        numerator: u64::from(word_or(register, k, 0)),
+        denominator: u64::from(word_or(register, k + 1, 0)),
     }
 }
 
@@ -25,13 +23,10 @@ fn ratio_at(register: &[u32], k: usize) -> Ratio
 pub fn ratios_of(register: &[u32]) -> Ratios
     ensures { result ≡ ratios_of register.now }
 {
-    let proprietary = ratio_at(register, RATIOS);
-    let management = ratio_at(register, RATIOS + 2);
-    let institution = ratio_at(register, RATIOS + 4);
     Ratios {
-        proprietary: proprietary,
-        management: management,
-        institution: institution,
+        proprietary: ratio_at(register, RATIOS),
+        management: ratio_at(register, RATIOS + 2),
+        institution: ratio_at(register, RATIOS + 4),
     }
 }
 
@@ -55,10 +50,7 @@ fn put_ratio(register: &mut [u32], k: usize, ratio: Ratio)
 pub fn put_ratios(register: &mut [u32], ratios: Ratios)
     ensures { register.new ≡ put_ratios register.old ratios }
 {
-    let proprietary = ratios.proprietary;
-    let management = ratios.management;
-    let institution = ratios.institution;
-    put_ratio(register, RATIOS, proprietary);
-    put_ratio(register, RATIOS + 2, management);
-    put_ratio(register, RATIOS + 4, institution);
+    put_ratio(register, RATIOS, ratios.proprietary);
+    put_ratio(register, RATIOS + 2, ratios.management);
+    put_ratio(register, RATIOS + 4, ratios.institution);
 }

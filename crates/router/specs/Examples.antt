@@ -1,6 +1,6 @@
 -- Examples by computation: rooms of rows, the room after document 01's day, rows read from texts. Expected values are worked out from document 01 by
 -- hand. LineExamples.antt has the call lines. Assumes nothing.
-use Rattle.std.specs.Prelude.{ℕ, ◌≤◌, ◌<◌, ◌≡◌, refl, Bool, true, false, List, [], ◌∷◌, ◌++◌, length, replicate}
+use Rattle.std.specs.Prelude.{ℕ, ◌≤◌, ◌<◌, ◌≡◌, refl, Bool, true, false, List, [], ◌∷◌, ◌++◌, length, replicate, Some, None}
 use Rattle.std.proofs.Math.Path.{ap}
 use Rattle.std.proofs.Common.{◌∙◌, arith, le-ltb}
 use Rattle.rules.specs.Money.{mils, millions, mils_of}
@@ -9,7 +9,6 @@ use Rattle.rules.specs.Orders.{is_buy, price_rule, worse_fill, net_of, shanghai,
 use Rattle.rules.specs.Lists.{enrol_rules, attach_rules, regular_rules, own_quota_rules, order_rules, fill_rules, cancel_rules}
 use Rattle.rules.specs.Keyed.{find, put, without}
 use Rattle.rules.specs.Sums.{when, sum_over}
-use Rattle.rules.specs.declared.quotas.Limit.TheVariants.{Nothing, At}
 use Rattle.history.specs.Past.{at_opening, filled_money, open_in, bought_in, sold_in, money_in}
 use Rattle.history.specs.Answers.{is_taken, refusals, number_given, answer}
 use Rattle.history.specs.Examples.{input}
@@ -23,8 +22,8 @@ use Rattle.rows.specs.Row.{signed_net, row_obeys, row_kept, refused_row}
 use Rattle.rows.specs.Kept.{money_fits}
 use Rattle.rows.specs.Room.{difference, room_under, room_of}
 use Rattle.rows.specs.declared.Row.{Row}
-use Rattle.rows.specs.declared.Room.{Room}
-use Rattle.rows.specs.declared.RowRead.{RowRead}
+use Rattle.rows.specs.Room.{Room}
+use Rattle.rows.specs.Row.{RowRead}
 use Rattle.listing.specs.Text.{listing_text, fresh, rows_kept, listing_kept, is_listing, refusal_of_text}
 use Rattle.listing.specs.Laws.{listing_read}
 use Rattle.listing.specs.Examples.{paper_line, none_line, below_line, paper_row, none_row, below_row}
@@ -44,7 +43,7 @@ read_of r = record { refusal = 0; row = r }
 -- own quota 5, and this net
 abbrev five : ℕ → Row
 five net =
-    record { code = 1; class = 1; maximum = At (millions 8); own = At (millions 5); money = record { «open» = mils net; bought = mils 0; sold = mils 0 }; below = false; net = mils net }
+    record { code = 1; class = 1; maximum = Some (millions 8); own = Some (millions 5); money = record { «open» = mils net; bought = mils 0; sold = mils 0 }; below = false; net = mils net }
 
 -- the answer, and the lent words afterwards
 abbrev Told : RowRead → List ℕ → ℕ → List ℕ → Type 0
@@ -127,7 +126,7 @@ nine = replicate 9 7
 
 -- a second group, without a maximum
 abbrev second : Row
-second = record { code = 2; class = 3; maximum = Nothing; own = Nothing; money = record { «open» = mils 0; bought = mils 0; sold = mils 0 }; below = false; net = mils 0 }
+second = record { code = 2; class = 3; maximum = None; own = None; money = record { «open» = mils 0; bought = mils 0; sold = mils 0 }; below = false; net = mils 0 }
 
 abbrev two : List ℕ
 two = listing_text (paper_row ∷ second ∷ [])

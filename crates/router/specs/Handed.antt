@@ -1,10 +1,9 @@
 -- What a router is handed beside a call's answer: the length of a listing, and a row as plain numbers. All else that the router's functions
 -- promise is defined in the crates below.
-use Rattle.std.specs.Prelude.{ℕ, ◌*◌, List, [], ◌∷◌, ltb, length}
+use Rattle.std.specs.Prelude.{ℕ, ◌*◌, List, [], ◌∷◌, ltb, length, Some, None}
 use Rattle.rules.specs.Tests.{pick}
 use Rattle.rules.specs.Refusals.{short_buffer_number, unless_refused}
-use Rattle.rules.specs.declared.quotas.Limit.{Limit}
-use Rattle.rules.specs.declared.quotas.Limit.TheVariants.{Nothing, At}
+use Rattle.rules.specs.Money.{Limit}
 use Rattle.words.specs.Words.{splice}
 use Rattle.quota.specs.Asks.{groups_enrolled}
 use Rattle.rows.specs.Row.{row_of}
@@ -22,8 +21,8 @@ abbrev pub dash : ℕ
 dash = 18_446_744_073_709_551_615
 
 abbrev pub limit_word : Limit → ℕ
-limit_word Nothing = dash
-limit_word (At quota) = quota.0
+limit_word None = dash
+limit_word (Some quota) = quota.0
 
 -- a row's words, in the order of a listing's columns: code, class, maximum, own quota, net (1 where it is below 0, and its size), open buys,
 -- bought, sold

@@ -1,7 +1,7 @@
 -- What a router may count on of a room. After every list of calls and loads from a fresh gate it is that of the history's row (`room_demand`); it is told exactly where
 -- there is a maximum (`no_maximum`, `a_maximum`); memory that is not sound is answered by 1 (`room_damaged`); a refusal writes no word (`room_kept`).
 -- `room_is` and `room_lets_in` in rows/specs/Room.antt say what its number means. Assumes nothing.
-use Rattle.std.specs.Prelude.{ℕ, ◌<◌, ◌≡◌, refl, ◌≢◌, true, false, not, List, leb, ltb, length}
+use Rattle.std.specs.Prelude.{ℕ, ◌<◌, ◌≡◌, refl, ◌≢◌, true, false, not, List, leb, ltb, length, Some, None}
 use Rattle.std.proofs.Math.Path.{ap}
 use Rattle.std.proofs.Common.{◌∙◌}
 use Rattle.std.proofs.lemmas.Bool.{false≢true}
@@ -12,8 +12,7 @@ use Rattle.rules.specs.Quotas.{is_none}
 use Rattle.rules.specs.Refusals.{unsound_number, no_maximum_number, short_buffer_number, unless_refused}
 use Rattle.rules.specs.Laws.{where_refused, where_accepted}
 use Rattle.rules.specs.declared.money.Millions.{Millions}
-use Rattle.rules.specs.declared.quotas.Limit.{Limit}
-use Rattle.rules.specs.declared.quotas.Limit.TheVariants.{Nothing, At}
+use Rattle.rules.specs.Money.{Limit}
 use Rattle.history.specs.Past.{History, at_opening}
 use Rattle.history.specs.Runs.{Entry, after_all}
 use Rattle.words.specs.Words.{splice}
@@ -24,7 +23,7 @@ use Rattle.rows.specs.Row.{limits_kept, at_most, row_kept, row_refusal, row_of, 
 use Rattle.rows.specs.Kept.{ruled}
 use Rattle.rows.specs.Room.{room_by, room_of}
 use Rattle.rows.specs.declared.Row.{Row}
-use Rattle.rows.specs.declared.RowRead.{RowRead}
+use Rattle.rows.specs.Row.{RowRead}
 use Rattle.gate_listing.specs.Claim.{history_row}
 use Rattle.router.specs.Rooms.{room_length, room_words, left_refusal, left_put, read_refusal, room_refusal, room_put}
 use Rattle.router.specs.Rows.{ReadAs, row_read_lem}
@@ -73,20 +72,20 @@ unfolding room_of
 given_by_maximum r k = go r.maximum r.own (ruled r k).limits
   where
     go : (maximum own : Limit) → limits_kept maximum own ≡ true → (room_by own r.below r.net).given ≡ not (is_none maximum)
-    go Nothing Nothing h = refl
-    go Nothing (At q) h = absurd (false≢true h)
-    go (At m) Nothing h = absurd (false≢true (both (leb m.0 top_quota) (at_most Nothing m) h).1)
-    go (At m) (At q) h = refl
+    go None None h = refl
+    go None (Some q) h = absurd (false≢true h)
+    go (Some m) None h = absurd (false≢true (both (leb m.0 top_quota) (at_most None m) h).1)
+    go (Some m) (Some q) h = refl
 
 module _ (m : Memory) (group lent : ℕ) (z : (row_read m group).refusal ≡ 0) where
   given : (room_of (row_read m group).row).given ≡ not (is_none (row_read m group).row.maximum)
   given = given_by_maximum (row_read m group).row (row_of_kept m.register m.book m.places group z)
 
   -- "15: maximum is none" (Refusal list)
-  pub no_maximum : (row_read m group).row.maximum ≡ Nothing → room_refusal m group lent ≡ no_maximum_number
+  pub no_maximum : (row_read m group).row.maximum ≡ None → room_refusal m group lent ≡ no_maximum_number
   no_maximum n = left_decides m group lent z ∙ rw (given ∙ ap (λ (x : Limit). not (is_none x)) n)
 
-  pub a_maximum : (quota : Millions) → (row_read m group).row.maximum ≡ At quota → room_refusal m group lent ≡ pick (ltb lent room_length) short_buffer_number 0
+  pub a_maximum : (quota : Millions) → (row_read m group).row.maximum ≡ Some quota → room_refusal m group lent ≡ pick (ltb lent room_length) short_buffer_number 0
   a_maximum quota n = left_decides m group lent z ∙ rw (given ∙ ap (λ (x : Limit). not (is_none x)) n)
 
 -- ---- damaged memory, and refusals

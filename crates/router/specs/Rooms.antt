@@ -6,8 +6,8 @@ use Rattle.rules.specs.Refusals.{no_maximum_number, short_buffer_number, refusal
 use Rattle.words.specs.Words.{splice}
 use Rattle.rows.specs.Row.{row_of}
 use Rattle.rows.specs.Room.{room_of}
-use Rattle.rows.specs.declared.Room.{Room}
-use Rattle.rows.specs.declared.RowRead.{RowRead}
+use Rattle.rows.specs.Room.{Room}
+use Rattle.rows.specs.Row.{RowRead}
 use Rattle.claim.specs.Step.{Memory}
 
 -- a room's words: 1 where it is below 0, and its size

@@ -13,7 +13,7 @@ use Rattle.rules.specs.Orders.{shanghai}
 use Rattle.rules.specs.Refusals.{unsound_number, short_buffer_number}
 use Rattle.rules.specs.Laws.{where_accepted}
 use Rattle.rules.specs.declared.kinds.Money.{Money}
-use Rattle.rules.specs.declared.quotas.Limit.{Limit}
+use Rattle.rules.specs.Money.{Limit}
 use Rattle.history.specs.Past.{History, at_opening}
 use Rattle.history.specs.Runs.{Entry, after_all}
 use Rattle.words.specs.Words.{splice}
@@ -28,7 +28,7 @@ use Rattle.claim.proofs.Theorem.{all_sim, opened_sim, demand}
 use Rattle.orders.specs.Host.{host_ok}
 use Rattle.rows.specs.Row.{row_obeys, row_kept, no_row, refused_row, made_row, shown_row, row_refusal, row_at, row_of}
 use Rattle.rows.specs.declared.Row.{Row}
-use Rattle.rows.specs.declared.RowRead.{RowRead}
+use Rattle.rows.specs.Row.{RowRead}
 use Rattle.listing.specs.Text.{fresh, rows_kept, listing_kept}
 use Rattle.gate_listing.specs.Listed.{rows_on, gate_rows}
 use Rattle.gate_listing.specs.Claim.{history_row, history_rows_on, history_rows, ListedAs}

@@ -25,14 +25,13 @@ use Rattle.book.specs.Layout.{accepted_of, no_money, place_at, put_accepted, put
 use Rattle.book.specs.Check.{book_ok}
 use Rattle.orders.specs.Host.{host_ok, named_ok}
 use Rattle.orders.specs.Calls.{unless_broken, order_reads, place_reads, order_booked, order_refusal, order_answer, order_book, order_places, fill_booked, fill_refusal, fill_book, fill_places, cancel_booked, cancel_refusal, cancel_book, cancel_places, closed_book}
-use Rattle.orders.specs.declared.booking.Booked.{Booked}
+use Rattle.orders.specs.Booking.{Booked}
 use Rattle.rows.specs.Row.{row_refusal, row_of}
 use Rattle.listing.specs.Text.{listing_kept, row_bytes}
 use Rattle.gate_listing.specs.Listed.{gate_rows, list_refusal}
 use Rattle.router.specs.Handed.{handed_refusal}
 use Rattle.claim.specs.Step.{Memory, Stepped, memory, book_sound, enrolled_book, step, step_entry}
-use Rattle.rules.specs.Loads.{load_rules, loaded}
-use Rattle.rules.specs.declared.loads.RatioFile.{RatioFile}
+use Rattle.rules.specs.Loads.{load_rules, loaded, FileRead}
 use Rattle.history.specs.Runs.{Loaded}
 
 -- "A refusal returns its number alone; gate, places and buffers keep their contents." (Refusal list)
@@ -162,11 +161,11 @@ pub safe : (m : Memory) (c : Call) → Safe m c
 safe m c = record { alone = always_alone m c; damaged = always_hurt m c }
 
 -- the same of a load (2026-01)
-pub record LoadSafe (m : Memory) (f : RatioFile) : Type 0 where
+pub record LoadSafe (m : Memory) (f : FileRead) : Type 0 where
   pub alone : Alone m (step_entry shanghai m (Loaded f))
   pub damaged : is_whole m ≡ false → refusal_in (step_entry shanghai m (Loaded f)) ≡ unsound_number
 
-pub load_safe : (m : Memory) (f : RatioFile) → LoadSafe m f
+pub load_safe : (m : Memory) (f : FileRead) → LoadSafe m f
 unfolding step_entry host_ok is_sound book_sound load_refusal load_after
 load_safe m f = record {
   alone = alone_register m (book_sound m) (load_refusal m.register f) 0 (put_ratios m.register (loaded f));

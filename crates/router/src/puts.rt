@@ -3,68 +3,54 @@ ghost use Rattle.std.specs.Prelude.{◌≡◌, true, ◌<◌, length, get_or};
 ghost use Rattle.rules.specs.Tests.{pick};
 ghost use Rattle.words.specs.Words.{stored};
 ghost use Rattle.rows.specs.Row.{no_row};
+ghost use Rattle.rows.specs.Room.{room_told};
 ghost use Rattle.listing.specs.Text.{is_listing, rows_in};
-ghost use Rattle.router.specs.Handed.{limit_word, row_words};
+ghost use Rattle.router.specs.Handed.{row_words};
 ghost use Rattle.router.specs.Rooms.{room_words};
 
 use listing::lines::ROW;
 use listing::texts::Step;
 use listing_text::step_in;
-use rows::{Room, Row};
-use rules::quotas::Limit;
+use rows::{Net, Row};
+use rules::kinds::Money;
 use words::store;
 
 // "-" as a word.
 const DASH: u64 = 18_446_744_073_709_551_615;
 
-// A maximum or an own quota as a word.
-fn limit_word(limit: Limit) -> u64
-    ensures { result ≡ limit_word limit }
-{
-    match limit {
-        Limit::Nothing => DASH,
-        Limit::At(quota) => quota.0,
-    }
-}
-
 // A sign as a word.
 fn sign_word(below: bool) -> u64
     ensures { result ≡ pick below 1 0 }
 {
-    if below { 1 } else { 0 }
+    u64::from(below)
 }
 
 // A row's words into lent words; nothing where they do not fit.
+#[tactic(auto, unfolding(crate::specs::Handed::row_words))]
 pub(crate) fn put_row(out: &mut [u64], row: Row)
     ensures { out.new ≡ stored out.old 0 (row_words row) }
 {
-    let maximum = row.maximum;
-    let own = row.own;
-    let most = limit_word(maximum);
-    let allowed = limit_word(own);
-    let below = sign_word(row.below);
-    let net = row.net;
-    let money = row.money;
-    let open = money.open;
-    let bought = money.bought;
-    let sold = money.sold;
-    store(
-        out,
-        0,
-        &[
-            row.code, row.class, most, allowed, below, net.0, open.0, bought.0, sold.0,
-        ],
-    );
+    let Money { open, bought, sold } = row.money;
+    let words = [
+        row.code,
+        row.class,
+        row.maximum.map_or(DASH, |quota| quota.0),
+        row.own.map_or(DASH, |quota| quota.0),
+        sign_word(row.below),
+        row.net.0,
+        open.0,
+        bought.0,
+        sold.0,
+    ];
+    store(out, 0, &words);
 }
 
 // A room's words into lent words; nothing where they do not fit.
-pub(crate) fn put_room(out: &mut [u64], room: Room)
-    ensures { out.new ≡ stored out.old 0 (room_words room) }
+pub(crate) fn put_room(out: &mut [u64], left: Net)
+    ensures { out.new ≡ stored out.old 0 (room_words (room_told (Some left))) }
 {
-    let left = room.left;
-    let below = sign_word(left.below);
-    let size = left.size;
-    store(out, 0, &[below, size.0]);
+    let Net { below, size } = left;
+    store(out, 0, &[sign_word(below), size.0]);
 }
 
 // The words of row k of a listing into lent words; nothing where they do not fit.
@@ -72,9 +58,7 @@ pub(crate) fn put_found(text: &[u8], k: u64, out: &mut [u64])
     requires { (is_listing text.now ≡ true) × (k < length (rows_in text.now)) }
     ensures { out.new ≡ stored out.old 0 (row_words (get_or (rows_in text.now) k no_row)) }
 {
-    match step_in(text, ROW * (k as usize), 0) {
-        Step::Next(row) => put_row(out, row),
-        Step::Broken => {}
-        Step::End => {}
+    if let Step::Next(row) = step_in(text, ROW * (k as usize), Ok(())) {
+        put_row(out, row);
     }
 }

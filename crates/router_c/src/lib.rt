@@ -1,5 +1,6 @@
 // The library for order routers as C sees it: the eight functions of the crate router, each under its name and with its clauses. include/ekhurtza.h
 // declares them; a slice comes as a pointer and a length.
+// Kept (rule): the C interface: eight names, numbers for refusals, each memory and field by itself.
 #![tactic(auto)]
 
 ghost use Rattle.std.specs.Prelude.{◌≡◌, length};

@@ -1,20 +1,17 @@
 -- The room left to a group: own quota − net, in mils, as sign and size; none where the maximum is none, since no own quota is in force then. It is not
 -- in the papers: a router works it out of a row, and this is what it has to be. "A buy is accepted only if net, before it, is below the own quota" (Orders):
 -- so a buy passes exactly where there is room, `room_lets_in`.
-use Rattle.std.specs.Prelude.{ℕ, zero, suc, ◌+◌, ◌-◌, ◌*◌, ◌≤◌, min, ◌≡◌, refl, Bool, true, false, not, cond, ◌&&◌, ltb, pos, negsuc, ◌-ℤ◌}
+use Rattle.std.specs.Prelude.{ℕ, zero, suc, ◌+◌, ◌-◌, ◌*◌, ◌≤◌, min, ◌≡◌, refl, Bool, true, false, not, cond, ◌&&◌, ltb, pos, negsuc, ◌-ℤ◌, Option, Some, None}
 use Rattle.std.proofs.Common.{sym, ap, ◌∙◌, arith, lt-ltb, le-ltb, ltb-true, ltb-false}
 use Rattle.std.proofs.lemmas.Bool.{false≢true}
 use Rattle.rules.specs.Tests.{pick}
 use Rattle.rules.specs.Limits.{top_money, top_quota, mils_aMillion}
-use Rattle.rules.specs.Money.{mils, mils_of}
+use Rattle.rules.specs.Money.{mils, mils_of, Limit}
 use Rattle.rules.specs.Orders.{net_of, shanghai}
 use Rattle.rules.specs.declared.money.Millions.{Millions}
 use Rattle.rules.specs.declared.money.Mils.{Mils}
-use Rattle.rules.specs.declared.quotas.Limit.{Limit}
-use Rattle.rules.specs.declared.quotas.Limit.TheVariants.{Nothing, At}
 use Rattle.rows.specs.declared.Net.{Net}
 use Rattle.rows.specs.declared.Row.{Row}
-use Rattle.rows.specs.declared.Room.{Room}
 use Rattle.rows.specs.Row.{signed, row_kept, net_is}
 use Rattle.rows.specs.Kept.{ruled}
 
@@ -30,9 +27,19 @@ held_net net = min net.0 top_money
 unfoldable pub room_under : Millions → Bool → Mils → Net
 room_under own below net = pick below (record { below = false; size = mils ((mils_of own).0 + held_net net) }) (difference (mils_of own).0 (held_net net))
 
+-- the room: not given where the maximum is none
+pub record Room : Type 0 where
+  pub given : Bool
+  pub left : Net
+
+-- what the functions answer, as a room
+abbrev pub room_told : Option Net → Room
+room_told None = record { given = false; left = record { below = false; size = mils 0 } }
+room_told (Some left) = record { given = true; left = left }
+
 abbrev pub room_by : Limit → Bool → Mils → Room
-room_by Nothing below net = record { given = false; left = record { below = false; size = mils 0 } }
-room_by (At own) below net = record { given = true; left = room_under own below net }
+room_by None below net = record { given = false; left = record { below = false; size = mils 0 } }
+room_by (Some own) below net = record { given = true; left = room_under own below net }
 
 unfoldable pub room_of : Row → Room
 room_of r = room_by r.own r.below r.net
@@ -64,7 +71,7 @@ under_is own false net h b =
     rw f (pos_minus (mils_of own).0 net.0)
 
 -- the room of a row that keeps its rules is own quota − net, an integer
-pub room_is : (r : Row) (own : Millions) → row_kept r ≡ true → r.own ≡ At own
+pub room_is : (r : Row) (own : Millions) → row_kept r ≡ true → r.own ≡ Some own
     → ((room_of r).given ≡ true) × (signed (room_of r).left ≡ pos (mils_of own).0 -ℤ net_of r.money)
 unfolding room_of
 room_is r own k e =
@@ -75,12 +82,12 @@ room_is r own k e =
     (rw e, rw e (known ∙ ap (λ z. pos (mils_of own).0 -ℤ z) net))
 
 -- where the maximum is none there is none
-pub no_room : (r : Row) → r.own ≡ Nothing → (room_of r).given ≡ false
+pub no_room : (r : Row) → r.own ≡ None → (room_of r).given ≡ false
 unfolding room_of
 no_room r e = rw e
 
 lets_in : (own : Millions) (below : Bool) (net amount : Mils) → net.0 ≤ top_money → (below ≡ true → 1 ≤ net.0)
-    → is_room (room_by (At own) below net) ≡ shanghai (mils_of own) (signed (record { below = below; size = net })) amount
+    → is_room (room_by (Some own) below net) ≡ shanghai (mils_of own) (signed (record { below = below; size = net })) amount
 unfolding room_under difference shanghai
 lets_in own true net amount h b = let f : ltb 0 ((mils_of own).0 + held_net net) ≡ true = lt-ltb 0 ((mils_of own).0 + held_net net) (omega (arith, b refl)) in f
 lets_in own false net amount h b = rw f (go (ltb (mils_of own).0 net.0) refl)
@@ -99,7 +106,7 @@ lets_in own false net amount h b = rw f (go (ltb (mils_of own).0 net.0) refl)
         go' false q = le-ltb 0 ((mils_of own).0 - net.0) (omega (arith, ltb-false net.0 (mils_of own).0 q))
 
 -- "A buy is accepted only if net, before it, is below the own quota" (Orders): a buy passes exactly where there is room, one mil or more
-pub room_lets_in : (r : Row) (own : Millions) (amount : Mils) → row_kept r ≡ true → r.own ≡ At own
+pub room_lets_in : (r : Row) (own : Millions) (amount : Mils) → row_kept r ≡ true → r.own ≡ Some own
     → is_room (room_of r) ≡ shanghai (mils_of own) (net_of r.money) amount
 unfolding room_of
 room_lets_in r own amount k e =
@@ -118,9 +125,9 @@ room_small r = go r.own r.below
     small a b false h k = omega arith
 
     go : (own : Limit) (below : Bool) → (room_by own below r.net).left.size.0 ≤ top_quota * mils_aMillion + top_money
-    go Nothing below = omega arith
-    go (At own) true = omega arith
-    go (At own) false = small (mils_of own).0 (held_net r.net) (ltb (mils_of own).0 (held_net r.net)) (omega arith) (omega arith)
+    go None below = omega arith
+    go (Some own) true = omega arith
+    go (Some own) false = small (mils_of own).0 (held_net r.net) (ltb (mils_of own).0 (held_net r.net)) (omega arith) (omega arith)
 
 -- "no "-0"" (Lines and columns): a room below 0 has a size
 pub room_sized : (r : Row) → (room_of r).left.below ≡ true → 1 ≤ (room_of r).left.size.0
@@ -134,6 +141,6 @@ room_sized r b = go r.own r.below b
     sized x y false e h = absurd (false≢true h)
 
     go : (own : Limit) (below : Bool) → (room_by own below r.net).left.below ≡ true → 1 ≤ (room_by own below r.net).left.size.0
-    go Nothing below h = absurd (false≢true h)
-    go (At own) true h = absurd (false≢true h)
-    go (At own) false h = sized (mils_of own).0 (held_net r.net) (ltb (mils_of own).0 (held_net r.net)) refl h
+    go None below h = absurd (false≢true h)
+    go (Some own) true h = absurd (false≢true h)
+    go (Some own) false h = sized (mils_of own).0 (held_net r.net) (ltb (mils_of own).0 (held_net r.net)) refl h

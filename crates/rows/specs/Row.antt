@@ -1,18 +1,18 @@
 -- The row of a group: what a listing has of it, "code .., class .., maximum .., own quota .., net .., open buys .., bought .., sold ..", and when
 -- there is none. (Lines and columns)
-use Rattle.std.specs.Prelude.{ℕ, zero, suc, ◌+◌, ◌-◌, ◌≤◌, ◌≡◌, refl, Bool, true, false, not, cond, ◌&&◌, List, [], ◌∷◌, leb, ltb, eqb, ℤ, pos, negsuc}
+use Rattle.std.specs.Prelude.{ℕ, zero, suc, ◌+◌, ◌-◌, ◌≤◌, ◌≡◌, refl, Bool, true, false, not, cond, ◌&&◌, List, [], ◌∷◌, leb, ltb, eqb, ℤ, pos, negsuc, Some, None, Result, Ok, Err}
 use Rattle.std.proofs.Common.{ap, arith, ltb-true, eq-eqb}
 use Rattle.std.proofs.lemmas.Bool.{false≢true}
 use Rattle.rules.specs.Tests.{pick}
 use Rattle.rules.specs.Limits.{is_code, is_class, is_group, brokerage, top_quota}
-use Rattle.rules.specs.Money.{mils}
+use Rattle.rules.specs.Money.{mils, Limit}
 use Rattle.rules.specs.Quotas.{is_none}
 use Rattle.rules.specs.Orders.{net_of}
+use Rattle.rules.specs.Numbers.{number_of}
 use Rattle.rules.specs.Refusals.{unsound_number, out_of_range_number, not_there_number, refusal, unless_refused}
 use Rattle.rules.specs.declared.money.Millions.{Millions}
 use Rattle.rules.specs.declared.kinds.Money.{Money}
-use Rattle.rules.specs.declared.quotas.Limit.{Limit}
-use Rattle.rules.specs.declared.quotas.Limit.TheVariants.{Nothing, At}
+use Rattle.rules.specs.declared.refusals.Refusal.{Refusal}
 use Rattle.register.specs.Layout.{group_at}
 use Rattle.quota.specs.Asks.{is_enrolled, own_in_force}
 use Rattle.book.specs.Layout.{no_money, money_at}
@@ -20,7 +20,6 @@ use Rattle.orders.specs.Host.{host_ok}
 use Rattle.orders.specs.Booking.{money_fits}
 use Rattle.rows.specs.declared.Net.{Net}
 use Rattle.rows.specs.declared.Row.{Row}
-use Rattle.rows.specs.declared.RowRead.{RowRead}
 
 -- "net = open + bought − sold", as sign and size: below 0 where more is sold (Lines and columns)
 unfoldable pub signed_net : Money → Net
@@ -35,14 +34,14 @@ class_kept class = is_class class && not (eqb class brokerage)
 
 -- "own quota at most maximum"; no own quota is missing where there is a maximum (Lines and columns)
 abbrev pub at_most : Limit → Millions → Bool
-at_most Nothing maximum = false
-at_most (At own) maximum = leb own.0 maximum.0
+at_most None maximum = false
+at_most (Some own) maximum = leb own.0 maximum.0
 
 -- "listing rows, written or read, may show maximum 0 from now on" (2026-01; before, "maximum 1 or more"); ""-" stands for a maximum of none, and then
 -- for own quota" (Lines and columns)
 abbrev pub limits_kept : Limit → Limit → Bool
-limits_kept Nothing own = is_none own
-limits_kept (At maximum) own = leb maximum.0 top_quota && at_most own maximum
+limits_kept None own = is_none own
+limits_kept (Some maximum) own = leb maximum.0 top_quota && at_most own maximum
 
 -- "A row obeys: each field in its range; class 1, 3 or 4; .. own quota at most maximum; open + bought + sold at most L" (Lines and columns)
 unfoldable pub row_obeys : ℕ → ℕ → Limit → Limit → Money → Bool
@@ -63,7 +62,12 @@ row_kept r = row_obeys r.code r.class r.maximum r.own r.money && net_kept r.belo
 
 -- no row, and a refused read
 abbrev pub no_row : Row
-no_row = record { code = 0; class = 0; maximum = Nothing; own = Nothing; money = no_money; below = false; net = mils 0 }
+no_row = record { code = 0; class = 0; maximum = None; own = None; money = no_money; below = false; net = mils 0 }
+
+-- a row read: the refusal's number, or 0, and the row, or one of zeros
+pub record RowRead : Type 0 where
+  pub refusal : ℕ
+  pub row : Row
 
 abbrev pub refused_row : ℕ → RowRead
 refused_row n = record { refusal = n; row = no_row }
@@ -73,6 +77,11 @@ made_row code class maximum own money = record {
   refusal = 0;
   row = record { code = code; class = class; maximum = maximum; own = own; money = money; below = (signed_net money).below; net = (signed_net money).size };
 }
+
+-- what the functions answer, as a row read: a refusal by its number and no row, else 0 and the row
+abbrev pub row_told : Result Row Refusal → RowRead
+row_told (Ok row) = record { refusal = 0; row = row }
+row_told (Err r) = refused_row (number_of r)
 
 -- the row of these figures; refused by 1 where it would break its rules
 unfoldable pub shown_row : ℕ → ℕ → Limit → Limit → Money → RowRead

@@ -3,61 +3,38 @@
 #![tactic(auto)]
 
 ghost use Rattle.std.specs.Prelude.{◌≡◌};
-ghost use Rattle.rows.specs.Room.{difference as differenceOf, room_under, room_of};
+ghost use Rattle.rows.specs.Room.{room_under, room_of, room_told};
 
-use rows::{Net, Room, Row};
-use rules::limits::{TOP_MONEY, smaller};
+use rows::{Net, Row, difference};
+use rules::limits::TOP_MONEY;
 use rules::money::{Millions, Mils, mils_of};
-use rules::quotas::Limit;
-
-// a − b as sign and size.
-fn difference(a: u64, b: u64) -> Net
-    ensures { result ≡ differenceOf a b }
-{
-    if a < b {
-        return Net {
-            below: true,
-            size: Mils(b - a),
-        };
-    }
-    Net {
-        below: false,
-        size: Mils(a - b),
-    }
-}
 
 // Own quota − net. A net above L, which no row that keeps its rules has, counts as L: no sum wraps.
-fn room_under(own: Millions, below: bool, net: Mils) -> Net
-    ensures { result ≡ room_under own below net }
+#[tactic(auto, using(crate::proofs::Steps::quota_small), unfolding(rows::specs::Room::room_under))]
+fn room_under(own: Millions, net: Net) -> Net
+    ensures { result ≡ room_under own net.below net.size }
 {
     let quota = mils_of(own);
-    let held = smaller(net.0, TOP_MONEY);
-    if below {
-        return Net {
+    let held = net.size.0.min(TOP_MONEY);
+    if net.below {
+        Net {
             below: false,
             size: Mils(quota.0 + held),
-        };
+        }
+    } else {
+        difference(quota.0, held)
     }
-    difference(quota.0, held)
 }
 
-// The room of a row; not given where no own quota is in force.
-pub fn room_of(row: Row) -> Room
-    ensures { result ≡ room_of row }
+// The room of a row; none where no own quota is in force.
+#[tactic(auto, unfolding(rows::specs::Room::room_of))]
+pub fn room_of(row: Row) -> Option<Net>
+    ensures { room_told result ≡ room_of row }
 {
-    let own = row.own;
-    let net = row.net;
-    match own {
-        Limit::Nothing => Room {
-            given: false,
-            left: Net {
-                below: false,
-                size: Mils(0),
-            },
-        },
-        Limit::At(quota) => Room {
-            given: true,
-            left: room_under(quota, row.below, net),
-        },
-    }
+    let own = row.own?;
+    let net = Net {
+        below: row.below,
+        size: row.net,
+    };
+    Some(room_under(own, net))
 }

@@ -1,11 +1,11 @@
 -- What a kind decides, for buys that are no repo lending and for numbers that are no kind; and net in natural numbers. Assumes nothing.
 use Prim.Native.Nat.{ℕ, ◌+◌, ◌≤◌, ◌<◌}
-use mathlib.Core.Path.{◌≡◌, refl, sym, ◌∙◌}
-use mathlib.Core.Bool.{Bool, true, false, not}
+use mathlib.Core.Path.{◌≡◌, sym}
+use mathlib.Core.Bool.{true, false}
 use mathlib.Core.Logic.{◌≢◌, ◌⊎◌, inl, inr}
 use native.Mathlib.Omega.{arith}
-use borrow.Author.Tests.{ne_eqb, leb-true, leb-false, lt-ltb, le-ltb}
-use lib.Dec.{leb, ltb}
+use borrow.Author.Tests.{ne_eqb}
+use lib.Dec.{ltb}
 use Rattle.rules.specs.Tests.{within, true_within, below_range, above_range}
 use Rattle.rules.specs.Limits.{is_price}
 use Rattle.rules.specs.Orders.{is_buy, price_rule, worse_fill, decided_by, net_of, shanghai, below_pos}
@@ -38,16 +38,8 @@ no_kind kind price fill o four five six =
     other (inl h) = omega arith
     other (inr h) = omega arith
 
-not_leb : (a b : ℕ) → not (leb a b) ≡ ltb b a
-not_leb a b = go (leb a b) refl
-  where
-    go : (t : Bool) → leb a b ≡ t → not t ≡ ltb b a
-    go true e = sym (le-ltb b a (leb-true a b e))
-    go false e = sym (lt-ltb b a (leb-false a b e))
-
 -- Shanghai's rule in natural numbers
 pub shanghai_sums : (own : Mils) (money : Money) (amount : Mils)
-    → not (leb (own.0 + money.sold.0) (money.«open».0 + money.bought.0)) ≡ shanghai own (net_of money) amount
+    → ltb (money.«open».0 + money.bought.0) (own.0 + money.sold.0) ≡ shanghai own (net_of money) amount
 unfolding shanghai net_of
-shanghai_sums own money amount =
-    not_leb (own.0 + money.sold.0) (money.«open».0 + money.bought.0) ∙ sym (below_pos (money.«open».0 + money.bought.0) money.sold.0 own.0)
+shanghai_sums own money amount = sym (below_pos (money.«open».0 + money.bought.0) money.sold.0 own.0)

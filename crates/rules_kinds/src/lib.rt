@@ -7,13 +7,12 @@ ghost use Rattle.rules.specs.Orders.{is_buy, price_rule, worse_fill, decided_by,
 
 use rules::kinds::{Decided, Money};
 use rules::limits::{REPO_PRICE, TOP_PRICE};
-use rules::money::{Mils, mils_of};
-use rules::quotas::Limit;
+use rules::money::{Millions, Mils, mils_of};
 
 fn in_price_range(price: Mils) -> bool
     ensures { result ≡ is_price price }
 {
-    (1 <= price.0) & (price.0 <= TOP_PRICE)
+    (1..=TOP_PRICE).contains(&price.0)
 }
 
 // Buys: kind 3 is repo lending, 1 and 2 may not be filled above the order's price.
@@ -35,6 +34,7 @@ fn decided_of_buy(kind: u64, price: Mils, fill: Mils) -> Decided
     }
 }
 
+// Kept (rule): "match on kind 1..6 ..": a kind is a number here, in calls, places and reads: a field or a word of lent memory may have any value.
 // The one match on the kind. What it says of a number that is no kind decides nothing: 2 refuses the order.
 pub fn decide(kind: u64, price: Mils, fill: Mils) -> Decided
     ensures { result ≡ decided_by kind price fill }
@@ -85,40 +85,21 @@ pub fn worse_fill(kind: u64, price: Mils, fill: Mils) -> bool
     decide(kind, price, fill).worse
 }
 
-// c + d is at most a + b; no sum is made that could wrap.
-fn sums_reach(a: u64, b: u64, c: u64, d: u64) -> bool
-    ensures { result ≡ leb (c + d) (a + b) }
-{
-    if a < c {
-        let short = c - a;
-        if b < short {
-            return false;
-        }
-        return d <= b - short;
-    }
-    let over = a - c;
-    if d < over {
-        return true;
-    }
-    d - over <= b
-}
-
-// Shanghai's rule of acceptance: net, before the order, is below the own quota, whatever the order's amount.
+// Shanghai's rule of acceptance: net, before the order, is below the own quota, whatever the order's amount. Open + bought < own + sold, over 128 bits, where
+// no sum wraps.
 pub fn accepts(own: Mils, money: Money) -> bool
     ensures { (amount : Mils) → result ≡ shanghai own (net_of money) amount }
 {
-    let open = money.open;
-    let bought = money.bought;
-    let sold = money.sold;
-    !sums_reach(open.0, bought.0, own.0, sold.0)
+    let used = u128::from(money.open.0) + u128::from(money.bought.0);
+    used < u128::from(own.0) + u128::from(money.sold.0)
 }
 
 // Shanghai's rule stops a buy under the own quota in force; where none is in force it does not.
-pub fn stops_buy(own: Limit, money: Money) -> bool
+pub fn stops_buy(own: Option<Millions>, money: Money) -> bool
     ensures { (amount : Mils) → result ≡ stops shanghai own (net_of money) amount }
 {
     match own {
-        Limit::Nothing => false,
-        Limit::At(quota) => !accepts(mils_of(quota), money),
+        None => false,
+        Some(quota) => !accepts(mils_of(quota), money),
     }
 }

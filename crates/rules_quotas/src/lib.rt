@@ -2,36 +2,21 @@
 #![tactic(auto)]
 
 ghost use Rattle.std.specs.Prelude.{◌≡◌};
-ghost use Rattle.rules.specs.Quotas.{ratio_of, quota_at, quota_by, in_force, own_quota, regular_maximum, maximum_at_close, emergency_at_close, own_at_close, closed_quota, flag_due, is_none};
+ghost use Rattle.rules.specs.Quotas.{ratio_of, quota_at, quota_by, in_force, own_quota, regular_maximum, maximum_at_close, emergency_at_close, own_at_close, closed_quota, flag_due};
 
-use rules::limits::{ASSET_MANAGEMENT, PROPRIETARY, TOP_QUOTA, TOP_RATIO, smaller};
+use rules::limits::{ASSET_MANAGEMENT, PROPRIETARY, TOP_QUOTA, TOP_RATIO};
 use rules::money::Millions;
-use rules::quotas::{Emergency, Limit, Quota, Ratio, Ratios};
-
-// A maximum of none, or no own quota in force.
-pub fn is_none(limit: Limit) -> bool
-    ensures { result ≡ is_none limit }
-{
-    match limit {
-        Limit::Nothing => true,
-        Limit::At(_) => false,
-    }
-}
+use rules::quotas::{Emergency, Quota, Ratio, Ratios};
 
 // The ratio of a class, by a table (2026-01).
 fn ratio_of(ratios: Ratios, class: u64) -> Ratio
     ensures { result ≡ ratio_of ratios class }
 {
-    if class == PROPRIETARY {
-        let proprietary = ratios.proprietary;
-        return proprietary;
+    match class {
+        PROPRIETARY => ratios.proprietary,
+        ASSET_MANAGEMENT => ratios.management,
+        _ => ratios.institution,
     }
-    if class == ASSET_MANAGEMENT {
-        let management = ratios.management;
-        return management;
-    }
-    let institution = ratios.institution;
-    institution
 }
 
 // base × numerator ÷ denominator, rounded half up. A number above its range counts as the top of the range: no product wraps, whatever the words of a
@@ -39,9 +24,9 @@ fn ratio_of(ratios: Ratios, class: u64) -> Ratio
 fn quota_at(ratio: Ratio, base: Millions) -> Millions
     ensures { result ≡ quota_at ratio base }
 {
-    let counted = smaller(base.0, TOP_QUOTA);
-    let n = smaller(ratio.numerator, TOP_RATIO);
-    let d = smaller(ratio.denominator, TOP_RATIO);
+    let counted = base.0.min(TOP_QUOTA);
+    let n = ratio.numerator.min(TOP_RATIO);
+    let d = ratio.denominator.min(TOP_RATIO);
     if d == 0 {
         return Millions(0);
     }
@@ -49,66 +34,44 @@ fn quota_at(ratio: Ratio, base: Millions) -> Millions
 }
 
 // The quota that a base gives its class, by a table of ratios (2026-01).
+#[tactic(auto, unfolding(rules::specs::Quotas::quota_by))]
 pub fn quota_by(ratios: Ratios, class: u64, base: Millions) -> Millions
     ensures { result ≡ quota_by ratios class base }
 {
-    let ratio = ratio_of(ratios, class);
-    quota_at(ratio, base)
+    quota_at(ratio_of(ratios, class), base)
 }
 
 // "flag: 1 above the threshold, else 0" (The eleven calls).
 pub fn flag_due(quota: Millions) -> u64
     ensures { result ≡ flag_due quota }
 {
-    if Quota::THRESHOLD < quota.0 { 1 } else { 0 }
+    u64::from(Quota::THRESHOLD < quota.0)
 }
 
-// "Undeclared, it equals the maximum." (Quotas)
-fn own_or(own: Limit, maximum: Millions) -> Limit
-    ensures { result ≡ own_quota own maximum }
-{
-    match own {
-        Limit::Nothing => Limit::At(maximum),
-        Limit::At(declared) => Limit::At(declared),
-    }
-}
-
-// The own quota in force: none where the maximum is none.
-pub fn own_in_force(quota: Quota) -> Limit
+// The own quota in force: none where the maximum is none. "Undeclared, it equals the maximum." (Quotas)
+pub fn own_in_force(quota: Quota) -> Option<Millions>
     ensures { result ≡ in_force quota }
 {
-    let maximum = quota.maximum;
-    let own = quota.own;
-    match maximum {
-        Limit::Nothing => Limit::Nothing,
-        Limit::At(m) => own_or(own, m),
-    }
+    quota.maximum.map(|maximum| quota.own.unwrap_or(maximum))
 }
 
 // What the standing figures give: the smaller of the threshold and their sum, or none where none stands.
-pub fn regular_maximum(standing: u64, sum: Millions) -> Limit
+pub fn regular_maximum(standing: u64, sum: Millions) -> Option<Millions>
     ensures { result ≡ regular_maximum standing sum }
 {
     if standing == 0 {
-        return Limit::Nothing;
+        return None;
     }
-    Limit::At(Millions(smaller(Quota::THRESHOLD, sum.0)))
+    Some(Millions(sum.0.min(Quota::THRESHOLD)))
 }
 
 // The maximum that the close brings: the emergency figure if held and not filed for withdrawal, else the regular one.
-pub fn maximum_at_close(emergency: Emergency, regular: Limit) -> Limit
+pub fn maximum_at_close(emergency: Emergency, regular: Option<Millions>) -> Option<Millions>
     ensures { result ≡ maximum_at_close emergency regular }
 {
     match emergency {
-        Emergency::Nobody => regular,
-        Emergency::Held {
-            declarer: _,
-            figure,
-        } => Limit::At(figure),
-        Emergency::Filed {
-            declarer: _,
-            figure: _,
-        } => regular,
+        Emergency::Held { figure, .. } => Some(figure),
+        Emergency::Nobody | Emergency::Filed { .. } => regular,
     }
 }
 
@@ -117,49 +80,29 @@ pub fn emergency_at_close(emergency: Emergency) -> Emergency
     ensures { result ≡ emergency_at_close emergency }
 {
     match emergency {
-        Emergency::Nobody => Emergency::Nobody,
-        Emergency::Held { declarer, figure } => Emergency::Held {
-            declarer: declarer,
-            figure: figure,
-        },
-        Emergency::Filed {
-            declarer: _,
-            figure: _,
-        } => Emergency::Nobody,
-    }
-}
-
-fn capped(own: Limit, maximum: Millions) -> Limit
-    ensures { result ≡ own_at_close (Limit.At maximum) own }
-{
-    match own {
-        Limit::Nothing => Limit::Nothing,
-        Limit::At(declared) => Limit::At(Millions(smaller(declared.0, maximum.0))),
+        Emergency::Filed { .. } => Emergency::Nobody,
+        kept => kept,
     }
 }
 
 // The own quota after the close: at most the new maximum, and erased where that is none.
-pub fn own_at_close(maximum: Limit, own: Limit) -> Limit
+pub fn own_at_close(maximum: Option<Millions>, own: Option<Millions>) -> Option<Millions>
     ensures { result ≡ own_at_close maximum own }
 {
-    match maximum {
-        Limit::Nothing => Limit::Nothing,
-        Limit::At(m) => capped(own, m),
-    }
+    let maximum = maximum?;
+    let declared = own?;
+    Some(declared.min(maximum))
 }
 
 // A group's quota after the close, with what its standing figures give.
-pub fn closed_quota(quota: Quota, regular: Limit) -> Quota
+#[tactic(auto, unfolding(rules::specs::Quotas::closed_quota))]
+pub fn closed_quota(quota: Quota, regular: Option<Millions>) -> Quota
     ensures { result ≡ closed_quota quota regular }
 {
-    let emergency = quota.emergency;
-    let own = quota.own;
-    let maximum = maximum_at_close(emergency, regular);
-    let kept = own_at_close(maximum, own);
-    let held = emergency_at_close(emergency);
+    let maximum = maximum_at_close(quota.emergency, regular);
     Quota {
-        maximum: maximum,
-        own: kept,
-        emergency: held,
+        maximum,
+        own: own_at_close(maximum, quota.own),
+        emergency: emergency_at_close(quota.emergency),
     }
 }

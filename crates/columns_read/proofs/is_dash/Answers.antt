@@ -1,27 +1,21 @@
 -- `columns_read::is_dash` meets its contract. Assumes nothing.
-use mathlib.Core.Path.{sym, ◌∙◌}
-use native.Mathlib.Omega.{arith}
-use Rattle.columns.specs.Column.{dashed}
-use Rattle.columns.specs.Laws.{length-dashed}
-use Rattle.columns.proofs.Steps.{dashed-at, same_on, same_not, same_over}
+use Rattle.std.proofs.Common.{◌≡◌, ◌∙◌, sym, true, false, eqb, rules, tests}
+use Rattle.std.specs.List.{list_all}
+use Rattle.std.proofs.lemmas.Iterator.{YieldsList-from_slice}
+use Rattle.std.proofs.lemmas.Iterator.Search.{all_from_yields_List}
+use Rattle.columns.proofs.Methods.{dash_last}
 use Rattle.columns_read.proofs.is_dash.Goals as goal
 
-pub returns-then-text-at : goal.returns-then-text-at
-returns-then-text-at c =
-    let a = c.args in
-    let l = c.loop-i in
-    let e = c.mark_of.ensures ∙ dashed-at a.w l.i c.loop-i-test.true in
-    sym (l.invariant.1 ∙ same_not a.text.now (dashed a.w) a.at a.w l.i c.requires (length-dashed a.w) c.loop-i-test.true (λ f. c.if-text-at.true (f ∙ sym e)))
+pub returns-then-all : goal.returns-then-all
+returns-then-all c =
+    let s = c.in-Some in
+    let e : c.all.result ≡ list_all (λ x. eqb x 32) s.blanks.now = all_from_yields_List (λ x. eqb x 32) _ _ c.all.result c.all.ensures.ran (YieldsList-from_slice s.blanks.now (cc)) (λ x b q k. search (rules, tests)) in
+    let t : list_all (λ x. eqb x 32) s.blanks.now ≡ true = sym e ∙ c.if-all.true in
+    rw (← dash_last c.args.column.now s.blanks.now s.last.now s.ensures.cases.0, t)
 
-pub loop-i-preserved : goal.loop-i-preserved
-loop-i-preserved c =
-    let a = c.args in
-    let l = c.loop-i in
-    let e = c.mark_of.ensures ∙ dashed-at a.w l.i c.loop-i-test.true in
-    (omega arith, l.invariant.1 ∙ same_on a.text.now (dashed a.w) a.at a.w l.i c.requires (length-dashed a.w) c.loop-i-test.true (c.if-text-at.false ∙ e))
-
-pub returns : goal.returns
-returns c =
-    let a = c.args in
-    let l = c.loop-i in
-    sym (l.invariant.1 ∙ same_over a.text.now (dashed a.w) a.at a.w l.i c.requires (length-dashed a.w) c.loop-i-test.false)
+pub returns-else-all : goal.returns-else-all
+returns-else-all c =
+    let s = c.in-Some in
+    let e : c.all.result ≡ list_all (λ x. eqb x 32) s.blanks.now = all_from_yields_List (λ x. eqb x 32) _ _ c.all.result c.all.ensures.ran (YieldsList-from_slice s.blanks.now (cc)) (λ x b q k. search (rules, tests)) in
+    let t : list_all (λ x. eqb x 32) s.blanks.now ≡ false = sym e ∙ c.if-all.false in
+    rw (← dash_last c.args.column.now s.blanks.now s.last.now s.ensures.cases.0, t) c.if-all.false

@@ -1,14 +1,10 @@
 -- `columns_read::run_of_digits` meets its contract. Assumes nothing.
-use Prim.Native.Nat.{◌+◌, ◌*◌, ◌-◌, ◌^◌, ◌≤◌}
-use mathlib.Core.Path.{◌≡◌}
-use mathlib.Core.Bool.{◌&&◌}
-use lib.ListN.{drop}
-use Rattle.columns.specs.Column.{number as number_of, part}
+use Rattle.std.proofs.Common.{◌≡◌, ◌+◌, ◌*◌, ◌-◌, ◌^◌, length, drop}
+use Rattle.columns.specs.Column.{number as number_of}
 use Rattle.columns.specs.Scan.{all_digits}
 use Rattle.columns_read.proofs.run_of_digits.Given as goal
 
-abbrev pub invariant-loop-i : goal.invariant-loop-i
-invariant-loop-i l = (l.i ≤ l.w) × (all_digits (part l.text l.at l.w) ≡ (l.formed && all_digits (drop l.i (part l.text l.at l.w)))) × (number_of (part l.text l.at l.w) ≡ l.number * 10 ^ (l.w - l.i) + number_of (drop l.i (part l.text l.at l.w)))
-
-abbrev pub decreases-loop-i : goal.decreases-loop-i
-decreases-loop-i l = l.w - l.i
+abbrev pub invariant-loop-b : goal.invariant-loop-b
+invariant-loop-b l =
+    (all_digits l.digits ≡ all_digits (drop l.b-index l.digits))
+    × (number_of l.digits ≡ l.number * 10 ^ (length l.digits - l.b-index) + number_of (drop l.b-index l.digits))

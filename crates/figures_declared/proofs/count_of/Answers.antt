@@ -9,4 +9,4 @@ pub returns : goal.returns
 returns c =
     let d : length c.args.figures.declarers ≡ 8 = search rules in
     let q : length c.args.figures.quotas ≡ 8 = search rules in
-    c.smaller.ensures ∙ sym (standing-length c.args.figures d q)
+    c.min.ensures ∙ sym (standing-length c.args.figures d q)

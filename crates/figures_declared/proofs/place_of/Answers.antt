@@ -1,18 +1,17 @@
 -- `figures_declared::place_of` meets its contract. Assumes nothing.
-use mathlib.Core.Path.{◌≡◌, ap, ◌∙◌}
-use Prim.Native.Nat.{ℕ}
-use mathlib.Core.List.{List}
-use lib.ListN.{length, take}
-use Rattle.figures.specs.Places.{place_in}
-use Rattle.figures.specs.Figures.{place_of}
-use Rattle.figures_declared.proofs.Walk.{take-eight}
-use borrow.Author.Rules.{rules}
+use Rattle.std.proofs.Common.{rules, tests, ◌≡◌, ap, ◌∙◌, ℕ, length}
+use Rattle.std.specs.Prelude.{position, eqb, take}
+use Rattle.std.proofs.lemmas.Iterator.{YieldsList-from_slice}
+use Rattle.std.proofs.lemmas.Iterator.Search.{position_from_yields_List}
+use Rattle.figures_declared.proofs.Walk.{place_position}
 use Rattle.figures_declared.proofs.place_of.Goals as goal
 
 pub returns : goal.returns
-unfolding place_of
 returns c =
-    let d : length c.args.figures.declarers ≡ 8 = search rules in
-    c.place_in.ensures
-    ∙ ap (λ (n : ℕ). place_in c.args.declarer (take n c.args.figures.declarers)) c.smaller-searched.ensures
-    ∙ ap (λ (l : List ℕ). place_in c.args.declarer l) (take-eight c.args.figures.standing c.args.figures.declarers d)
+    let a = c.args in
+    let d : length a.figures.declarers ≡ 8 = search rules in
+    let q : length a.figures.quotas ≡ 8 = search rules in
+    position_from_yields_List (λ j. eqb j a.declarer) _ _ c.position.result c.position.ensures.ran
+    (YieldsList-from_slice (take c.count_of-searched.result a.figures.declarers) (cc)) (λ x b q k. search (rules, tests))
+    ∙ ap (λ (n : ℕ). position (λ (j : ℕ). eqb j a.declarer) (take n a.figures.declarers)) c.count_of-searched.ensures
+    ∙ place_position a.figures a.declarer d q

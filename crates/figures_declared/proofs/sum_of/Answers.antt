@@ -7,7 +7,7 @@ use Rattle.rules.specs.Money.{millions}
 use Rattle.rules.specs.declared.money.Millions.{Millions}
 use Rattle.rules.specs.Sums.{sum_over}
 use Rattle.figures.specs.Figures.{held}
-use Rattle.figures.specs.Laws.{sum-places}
+use Rattle.figures.specs.Laws.{standing-length, sum-places}
 use Rattle.figures_declared.proofs.Walk.{take-eight}
 use borrow.Author.Rules.{rules}
 use Rattle.figures_declared.proofs.sum_of.Goals as goal
@@ -18,6 +18,6 @@ returns c =
     let q : length c.args.figures.quotas ≡ 8 = search rules in
     ap millions
     (c.sum_in.ensures
-    ∙ ap (λ (n : ℕ). sum_over held (take n c.args.figures.quotas)) c.smaller-summed.ensures
+    ∙ ap (λ (n : ℕ). sum_over held (take n c.args.figures.quotas)) (c.count_of-summed.ensures ∙ standing-length c.args.figures d q)
     ∙ ap (λ (l : List Millions). sum_over held l) (take-eight c.args.figures.standing c.args.figures.quotas q))
     ∙ sym (sum-places c.args.figures d q)

@@ -1,19 +1,18 @@
 -- `gate_listing::put_rows` meets its contract. Assumes nothing.
-use mathlib.Core.Path.{ap}
-use native.Mathlib.Omega.{arith}
-use Rattle.rows.specs.declared.RowRead.{RowRead}
-use Rattle.gate_listing.proofs.Rows.{put_step}
-use borrow.Author.Rules.{rules}
+use Rattle.std.proofs.Common.{◌∙◌, ap}
+use Rattle.std.proofs.lemmas.Bool.{false≢true}
+use Rattle.rows.specs.Row.{RowRead}
+use Rattle.gate_listing.proofs.Rows.{put_step, broken_among}
+use Rattle.gate_listing.proofs.put_rows.Goals.{in-Ok, in_default}
 use Rattle.gate_listing.proofs.put_rows.Goals as goal
 
 pub loop-i-preserved : goal.loop-i-preserved
 loop-i-preserved c =
-    let a = c.args in
-    let l = c.loop-i in (
-      omega arith,
-      search rules,
-      put_step a.register.now a.book.now a.buffer.now l.buffer _ l.i a.n c.row_at-read.result.row
-          c.loop-i-test.true c.requires.0 c.requires.1
-          (ap (λ (x : RowRead). x.row) c.row_at-read.ensures)
-          l.invariant.2 c.put_row.ensures,
-    )
+    let rs = c.args.register.now in
+    let bs = c.args.book.now in
+    elim c.match-row_at.branch [
+      | in-Ok w ↦
+          rw w.buffer-is (put_step rs bs c.args.buffer.now c.loop-i.buffer _ c.loop-i.i c.args.n w.in-Ok.row c.loop-i-test.true c.requires.0 c.requires.1
+          (ap (λ (x : RowRead). x.row) w.in-Ok.ensures) c.loop-i.invariant w.put_row.ensures)
+      | in_default w ↦ absurd (false≢true (broken_among rs bs c.args.n c.loop-i.i w.in_default.field-0 c.loop-i-test.true w.in_default.ensures ∙ c.requires.1))
+    ]

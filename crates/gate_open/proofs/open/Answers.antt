@@ -1,20 +1,22 @@
 -- `gate_open::open` meets its contract. Assumes nothing.
-use Rattle.gate_open.proofs.Opened.{open_refused, open_done}
+use mathlib.Core.Path.{refl, sym}
+use native.Mathlib.Omega.{arith}
 use Rattle.claim.specs.Step.{memory}
-use Prim.Native.Nat.{ℕ}
-use mathlib.Core.List.{List}
-use mathlib.Core.Path.{ap, ◌∙◌}
-use Rattle.register.specs.Layout.{put_ratios}
+use Rattle.gate_open.proofs.Opened.{open_known, register_opened, book_opened}
 use Rattle.gate_open.proofs.open.Goals as goal
 
-pub returns-then-refusal-ne0 : goal.returns-then-refusal-ne0
-returns-then-refusal-ne0 c =
+pub bounds-book-0 : goal.bounds-book-0
+bounds-book-0 c =
     let a = c.args in
-    open_refused (memory a.register.now a.book.now a.places.now) c.refusal_of_opening-refusal.result c.refusal_of_opening-refusal.ensures c.if-refusal-ne0.true
+    let k = open_known (memory a.register.now a.book.now a.places.now) (sym c.in_ok-refusal_of_opening.ensures) in
+    omega (arith, c.fill.ensures.len)
 
-pub returns : goal.returns
-returns c =
+pub returns-clause-register : goal.returns-clause-register
+returns-clause-register c =
     let a = c.args in
-    open_done (memory a.register.now a.book.now a.places.now)
-    c.refusal_of_opening-refusal.result _ _ _ c.refusal_of_opening-refusal.ensures c.if-refusal-ne0.false c.old.ensures
-    (c.put_ratios.ensures ∙ ap (λ (z : List ℕ). put_ratios z c.old.result) c.store32.ensures) c.store.ensures
+    register_opened (memory a.register.now a.book.now a.places.now) _ _ _ c.in_ok-refusal_of_opening.ensures (c.fill-2.ensures.after (λ _ e. e)) c.old.ensures c.put_ratios.ensures
+
+pub returns-clause-book : goal.returns-clause-book
+returns-clause-book c =
+    let a = c.args in
+    book_opened (memory a.register.now a.book.now a.places.now) _ _ c.in_ok-refusal_of_opening.ensures refl (c.fill.ensures.after (λ _ e. e))

@@ -1,57 +1,45 @@
 -- `gate_runs::run` meets its contract. Assumes nothing.
-use mathlib.Core.Path.{refl, sym, ◌∙◌}
+use mathlib.Core.Path.{refl, sym}
 use native.Mathlib.Omega.{arith}
-use Rattle.claim.specs.Step.{memory}
-use Rattle.gate_runs.proofs.Ran.{start_memory, start_room, turn_memory, turn_room, run_known, run-refused, run-done}
-use borrow.Author.Rules.{rules}
+use Rattle.gate.specs.Lent.{memory_in}
+use Rattle.gate_runs.proofs.Ran.{start_memory, start_room, turn_memory, turn_room, run_known, run-done}
 use Rattle.gate_runs.proofs.run.Goals as goal
-
-pub returns-then-refusal-ne0 : goal.returns-then-refusal-ne0
-returns-then-refusal-ne0 c =
-    let a = c.args in
-    run-refused (memory a.register.now a.book.now a.places.now)
-    a.calls.now a.answers.now c.refusal_of_run-refusal.result c.refusal_of_run-refusal.ensures c.if-refusal-ne0.true
 
 pub loop-i-init : goal.loop-i-init
 loop-i-init c =
     let a = c.args in
-    let m = memory a.register.now a.book.now a.places.now in
-    let k = run_known m a.calls.now a.answers.now (sym c.refusal_of_run-refusal.ensures ∙ c.if-refusal-ne0.false) in (
-      omega arith,
-      refl,
-      k.0,
-      k.1,
-      refl,
-      refl,
-      refl,
-      refl,
-      start_memory m a.calls.now a.answers.now,
-      start_room m a.calls.now a.answers.now,
-    )
+    let m = memory_in a.gate.now in
+    record { after = start_memory m a.calls.now a.answers.now; answers = start_room m a.calls.now a.answers.now; same = (refl, refl, refl) }
+
+pub turn-requires : goal.turn-requires
+turn-requires c =
+    let a = c.args in
+    let k = run_known (memory_in a.gate.now) a.calls.now a.answers.now (sym c.in_ok-refusal_of_run.ensures) in
+    (omega arith, omega arith)
 
 pub loop-i-preserved : goal.loop-i-preserved
 loop-i-preserved c =
     let a = c.args in
     let l = c.loop-i in
-    let m = memory a.register.now a.book.now a.places.now in (
-      omega arith,
-      l.invariant.1,
-      l.invariant.2,
-      l.invariant.3,
-      search rules,
-      search rules,
-      search rules,
-      search rules,
-      turn_memory m a.calls.now a.answers.now l.i (memory l.register l.book l.places) l.invariant.8 _
-          c.turn.ensures.0,
-      turn_room m a.calls.now a.answers.now l.i (memory l.register l.book l.places) l.invariant.8 l.answers _
-          (omega arith) l.invariant.9 c.turn.ensures.1,
-    )
+    let v = l.invariant in
+    let m = memory_in a.gate.now in
+    let k = run_known m a.calls.now a.answers.now (sym c.in_ok-refusal_of_run.ensures) in
+    record {
+      after = turn_memory m a.calls.now a.answers.now l.i (memory_in l.gate) v.after _ c.turn.ensures.after.0;
+      answers = turn_room m a.calls.now a.answers.now l.i (memory_in l.gate) v.after l.answers _ (omega arith) v.answers c.turn.ensures.answers;
+      same = (cc, cc, cc);
+    }
 
-pub returns : goal.returns
-returns c =
+pub returns-clause-after : goal.returns-clause-after
+returns-clause-after c =
     let a = c.args in
     let l = c.loop-i in
-    run-done (memory a.register.now a.book.now a.places.now)
-    a.calls.now a.answers.now c.refusal_of_run-refusal.result l.i _ _ c.refusal_of_run-refusal.ensures c.if-refusal-ne0.false (omega arith)
-    l.invariant.8 l.invariant.9
+    let m = memory_in a.gate.now in
+    ((run-done m a.calls.now a.answers.now l.i _ _ c.in_ok-refusal_of_run.ensures (omega arith) l.invariant.after l.invariant.answers).0, l.invariant.same)
+
+pub returns-clause-answers : goal.returns-clause-answers
+returns-clause-answers c =
+    let a = c.args in
+    let l = c.loop-i in
+    let m = memory_in a.gate.now in
+    (run-done m a.calls.now a.answers.now l.i _ _ c.in_ok-refusal_of_run.ensures (omega arith) l.invariant.after l.invariant.answers).1

@@ -1,25 +1,29 @@
 -- `gate_runs::run_from_opening` meets its contract. Assumes nothing.
-use Rattle.gate_runs.proofs.Started.{wrong_lengths, not_opened, ran}
+use mathlib.Core.Path.{◌≡◌}
+use borrow.Author.Rules.{rules}
+use Rattle.rules.specs.Numbers.{number_of, refusal_number}
 use Rattle.claim.specs.Step.{memory}
+use Rattle.gate_runs.proofs.Started.{wrong_lengths, not_opened, ran}
 use Rattle.gate_runs.proofs.run_from_opening.Goals as goal
 
-pub returns-then-unfit-ne0 : goal.returns-then-unfit-ne0
-returns-then-unfit-ne0 c =
+pub returns-in_err-refusal_of_run : goal.returns-in_err-refusal_of_run
+returns-in_err-refusal_of_run c =
     let a = c.args in
-    wrong_lengths (memory a.register.now a.book.now a.places.now)
-    a.calls.now a.answers.now c.refusal_of_run-unfit.result c.refusal_of_run-unfit.ensures c.if-unfit-ne0.true
+    let e = c.in_err-refusal_of_run in
+    let n : refusal_number c.from_residual.result ≡ number_of e.field-0.0 = search rules in
+    wrong_lengths (memory a.register.now a.book.now a.places.now) a.calls.now a.answers.now e.field-0.0 _ n e.ensures
 
-pub returns-then-unopened-ne0 : goal.returns-then-unopened-ne0
-returns-then-unopened-ne0 c =
+pub returns-in_err-open : goal.returns-in_err-open
+returns-in_err-open c =
     let a = c.args in
-    not_opened (memory a.register.now a.book.now a.places.now)
-    a.calls.now a.answers.now c.refusal_of_run-unfit.result c.refusal_of_run-unfit.ensures c.if-unfit-ne0.false c.open-unopened.result
-    c.open-unopened.ensures.0 _ _ c.open-unopened.ensures.1.0 c.open-unopened.ensures.1.1 c.if-unopened-ne0.true
+    let e = c.in_err-open in
+    let n : refusal_number c.from_residual-in_err-open.result ≡ number_of e.field-0.0 = search rules in
+    not_opened (memory a.register.now a.book.now a.places.now) a.calls.now a.answers.now c.in_ok-refusal_of_run.ensures
+    _ _ e.ensures.register e.ensures.book e.field-0.0 _ n e.ensures.answer
 
 pub returns : goal.returns
 returns c =
     let a = c.args in
-    ran (memory a.register.now a.book.now a.places.now)
-    a.calls.now a.answers.now c.refusal_of_run-unfit.result c.refusal_of_run-unfit.ensures c.if-unfit-ne0.false c.open-unopened.result
-    c.open-unopened.ensures.0 _ _ c.open-unopened.ensures.1.0 c.open-unopened.ensures.1.1 c.run.result _ _ c.if-unopened-ne0.false
-    c.run.ensures.0 c.run.ensures.1.0 c.run.ensures.1.1
+    let o = c.in_ok-open.ensures in
+    ran (memory a.register.now a.book.now a.places.now) a.calls.now a.answers.now c.in_ok-refusal_of_run.ensures
+    _ _ o.register o.book _ _ _ o.answer c.run_lent.ensures.answer c.run_lent.ensures.after c.run_lent.ensures.answers

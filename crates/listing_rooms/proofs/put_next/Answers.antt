@@ -1,26 +1,34 @@
 -- `listing_rooms::put_next` meets its contract. Assumes nothing.
-use native.Mathlib.Omega.{arith}
-use mathlib.Core.Path.{ap, ◌∙◌}
-use Prim.Native.Nat.{◌*◌}
-use lib.Seq.{paste}
-use Rattle.rows.specs.declared.Row.{Row}
-use Rattle.listing.specs.Rooms.{room_bytes, room_text, rows_few}
-use Rattle.listing_rooms.proofs.Lined.{row_is_lem, row_kept_lem, never_broken, never_ends}
+use Rattle.std.proofs.Common.{◌≡◌, ap, ◌∙◌, ◌*◌, ◌+◌, ◌-◌, get_or, arith}
+use Rattle.columns.proofs.Methods.{put_is}
+use Rattle.columns.specs.Pastes.{length_part}
+use Rattle.rows.specs.Row.{no_row}
+use Rattle.listing.specs.Text.{rows_in}
+use Rattle.listing.specs.Rooms.{room_text, rows_few, length-room}
+use Rattle.listing_rooms.proofs.Lined.{row_is_lem, row_kept_lem, only_next}
 use Rattle.listing_rooms.proofs.put_next.Goals as goal
 
-pub overflow_mul-i : goal.overflow_mul-i
-overflow_mul-i c = record { fits = omega (arith, rows_few c.args.text.now c.requires.0, c.requires.1.0) }
+pub overflow_mul-at : goal.overflow_mul-at
+overflow_mul-at c = record { fits = omega (arith, rows_few c.args.reader.now.text.now c.requires.there.0, c.requires.there.1) }
+
+pub overflow_add-at : goal.overflow_add-at
+overflow_add-at c = record { fits = omega (arith, rows_few c.args.reader.now.text.now c.requires.there.0, c.requires.there.1) }
 
 pub put_room-requires : goal.put_room-requires
 put_room-requires c =
-    (c.requires.1.1, row_kept_lem c.args.text.now c.args.i c.requires.0 c.requires.1.0 c.row_from.result c.row_from.ensures c.in-Next.row c.in-Next.is)
+    let e : 29 * c.args.i + 29 - 29 * c.args.i ≡ 29 = omega arith in (
+      rw e (length_part c.args.out.now (29 * c.args.i) 29 c.requires.room),
+      row_kept_lem c.args.reader.now.text.now _ _ c.args.i c.requires.checked c.requires.place c.requires.there.0 c.requires.there.1 _ c.hand_out.ensures.0 c.in-Next.row c.in-Next.is,
+    )
 
-pub returns-in-Next : goal.returns-in-Next
-returns-in-Next c =
-    c.put_room.ensures ∙ ap (λ (x : Row). paste c.args.out.now (room_bytes * c.args.i) (room_text x) room_bytes) (row_is_lem c.args.text.now c.args.i c.requires.0 c.requires.1.0 c.row_from.result c.row_from.ensures c.in-Next.row c.in-Next.is)
+pub returns-in-Next-clause-line : goal.returns-in-Next-clause-line
+returns-in-Next-clause-line c =
+    let r = get_or (rows_in c.args.reader.now.text.now) c.args.i no_row in
+    put_is c.args.out.now c.put_room.new.line (room_text r) (29 * c.args.i) 29
+    (c.put_room.ensures ∙ ap room_text
+    (row_is_lem c.args.reader.now.text.now _ _ c.args.i c.requires.checked c.requires.place c.requires.there.0 c.requires.there.1 _ c.hand_out.ensures.0 c.in-Next.row c.in-Next.is))
+    (length-room r)
 
-pub returns-in-Broken : goal.returns-in-Broken
-returns-in-Broken c = absurd (never_broken c.args.text.now c.args.i c.requires.0 c.requires.1.0 c.row_from.result c.row_from.ensures c.in-Broken.is)
-
-pub returns-in-End : goal.returns-in-End
-returns-in-End c = absurd (never_ends c.args.text.now c.args.i c.requires.0 c.requires.1.0 c.row_from.result c.row_from.ensures c.in-End.is)
+pub returns-in_default : goal.returns-in_default
+returns-in_default c =
+    absurd (only_next c.args.reader.now.text.now _ _ c.args.i c.requires.checked c.requires.place c.requires.there.0 c.requires.there.1 _ c.hand_out.ensures.0 c.in_default.not-Next)

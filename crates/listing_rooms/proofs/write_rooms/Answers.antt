@@ -1,21 +1,31 @@
 -- `listing_rooms::write_rooms` meets its contract. Assumes nothing.
-use native.Mathlib.Omega.{arith}
-use mathlib.Core.Path.{sym, ◌∙◌}
+use Rattle.std.proofs.Common.{◌∙◌, sym, ap, arith}
+use Rattle.rules.specs.Numbers.{refusal_number}
 use Rattle.listing.specs.Rooms.{rows_few}
-use Rattle.listing_rooms.proofs.Lined.{listing_known, count_rows, put_short, put_refused, put-listed}
+use Rattle.listing_rooms.proofs.Lined.{listing_known, never_listing, count_rows, put_short, put_refused, put-listed}
 use Rattle.listing_rooms.proofs.write_rooms.Goals as goal
 
 pub returns-then-out-lt-MOST_ROOMS : goal.returns-then-out-lt-MOST_ROOMS
 returns-then-out-lt-MOST_ROOMS c = put_short c.args.text.now c.args.out.now (omega arith)
 
-pub returns-then-refusal_of_text-ne0 : goal.returns-then-refusal_of_text-ne0
-returns-then-refusal_of_text-ne0 c =
-    put_refused c.args.text.now c.args.out.now c.refusal_of_text.result c.refusal_of_text.ensures (omega arith) _ c.if-refusal_of_text-ne0.true c.put_refused.ensures
+pub put_rooms-requires-clause-there : goal.put_rooms-requires-clause-there
+put_rooms-requires-clause-there c =
+    rw c.opened-reader.ensures.0 (listing_known c.args.text.now (sym c.opened-reader.ensures.1.1 ∙ ap refusal_number c.in-Ok.is), sym (count_rows c.args.text.now))
 
-pub put_rooms-requires : goal.put_rooms-requires
-put_rooms-requires c =
-    (listing_known c.args.text.now (sym c.refusal_of_text.ensures ∙ c.if-refusal_of_text-ne0.false), (sym (count_rows c.args.text.now), omega (arith, count_rows c.args.text.now, rows_few c.args.text.now (listing_known c.args.text.now (sym c.refusal_of_text.ensures ∙ c.if-refusal_of_text-ne0.false)))))
+pub put_rooms-requires-clause-room : goal.put_rooms-requires-clause-room
+put_rooms-requires-clause-room c =
+    let t = c.args.text.now in
+    let few = rows_few t (listing_known t (sym c.opened-reader.ensures.1.1 ∙ ap refusal_number c.in-Ok.is)) in
+    omega (arith, count_rows t, few)
 
-pub returns : goal.returns
-returns c =
-    put-listed c.args.text.now c.args.out.now c.refusal_of_text.result c.refusal_of_text.ensures (omega arith) _ c.if-refusal_of_text-ne0.false c.put_rooms.ensures
+pub returns-in-Ok : goal.returns-in-Ok
+returns-in-Ok c =
+    let t = c.args.text.now in
+    put-listed t c.args.out.now c.if-out-lt-MOST_ROOMS.false _ (listing_known t (sym c.opened-reader.ensures.1.1 ∙ ap refusal_number c.in-Ok.is))
+    (rw c.opened-reader.ensures.0 at c.put_rooms.ensures)
+
+pub returns-in-Err : goal.returns-in-Err
+returns-in-Err c =
+    let t = c.args.text.now in
+    put_refused t c.args.out.now c.if-out-lt-MOST_ROOMS.false _ (never_listing t c.in-Err.field-0 (sym (ap refusal_number c.in-Err.is) ∙ c.opened-reader.ensures.1.1))
+    c.put_refused.ensures

@@ -1,11 +1,25 @@
 -- `pairs::skip` meets its contract. Assumes nothing.
-use mathlib.Core.Path.{sym, ◌∙◌}
+use Prim.Native.Nat.{ℕ, ◌/◌}
+use mathlib.Core.Path.{◌≡◌, ap, ◌∙◌}
+use mathlib.Core.List.{List}
 use native.Mathlib.Omega.{arith}
-use Rattle.pairs.specs.Laws.{lacks_none, lacks_block}
+use lib.Dec.{eqb}
+use lib.ListN.{length}
+use Rattle.std.specs.Option.{unwrap_or}
+use Rattle.std.specs.List.{list_any, position, position_or_len}
+use Rattle.std.specs.Simd.{first_chunks}
+use Rattle.pairs.proofs.Search.{blocks_lack, position_or, place_least}
 use Rattle.pairs.proofs.skip.Goals as goal
 
-pub loop-k-init : goal.loop-k-init
-loop-k-init c = (omega arith, lacks_none _ _)
-
-pub loop-k-preserved : goal.loop-k-preserved
-loop-k-preserved c = (omega arith, lacks_block c.args.ws.now c.loop-k.k c.args.key c.loop-k.invariant.1 (sym c.lacks.ensures ∙ c.if-not-lacks.false))
+pub returns : goal.returns
+returns c =
+    let ws = c.args.ws.now in
+    let n : ℕ = length ws / 16 in
+    let test = λ (block : List ℕ). list_any (λ word. eqb word c.args.key) block in
+    let b : c.unwrap_or.result ≡ position_or_len test (first_chunks 16 n ws) =
+    c.unwrap_or.ensures
+    ∙ ap (λ o. unwrap_or o (length c.as_chunks.result.0.now)) c.block_of.ensures
+    ∙ ap (λ (l : List (List ℕ)). unwrap_or (position test l) (length l)) c.as_chunks.ensures.front
+    ∙ position_or test (first_chunks 16 n ws) in
+    let m = place_least test n ws in
+    (omega arith, rw b (blocks_lack ws n c.args.key (omega arith)))

@@ -1,38 +1,42 @@
 -- `register_units::find_unit` meets its contract. Assumes nothing.
-use Prim.Native.Nat.{◌<◌}
-use mathlib.Core.Path.{refl, sym, ◌∙◌}
+use mathlib.Core.Path.{◌≡◌, sym, ap, ◌∙◌}
+use Prim.Native.Nat.{ℕ}
+use mathlib.Core.List.{List}
 use native.Mathlib.Omega.{arith}
-use borrow.Author.Tests.{lt-ltb, le-ltb}
+use lib.Dec.{eqb}
+use lib.ListN.{take}
+use Rattle.std.specs.Prelude.{Option, position}
 use Rattle.rules.specs.Keyed.{find}
-use Rattle.register.proofs.Steps.{no_units, place_short, attached-step, group_step, none-step}
+use Rattle.register.specs.Layout.{unit_count, unit_column}
+use Rattle.register.proofs.Steps.{no_units, found_step, missing_step}
 use Rattle.register_units.proofs.find_unit.Goals as goal
 
-pub returns-then-register-ne-REGISTER : goal.returns-then-register-ne-REGISTER
+-- what is sought among the units of the array is sought among those of the memory
+sought : (ws us xs : List ℕ) (unit : ℕ) (o p : Option ℕ) → us ≡ ws → xs ≡ take (unit_count us) (unit_column us) → o ≡ position (λ word. eqb word unit) xs → o ≡ p
+    → position (λ word. eqb word unit) (take (unit_count ws) (unit_column ws)) ≡ p
+sought ws us xs unit o p a b c d = ap (λ (l : List ℕ). position (λ word. eqb word unit) (take (unit_count l) (unit_column l))) (sym a) ∙ ap (position (λ word. eqb word unit)) (sym b) ∙ sym c ∙ d
+
+pub returns-in_err-register : goal.returns-in_err-register
 unfolding find
-returns-then-register-ne-REGISTER c = rw (no_units c.args.register.now c.if-register-ne-REGISTER.true) (refl, refl)
+returns-in_err-register c = c.from_residual.ensures ∙ sym (ap (find c.args.unit) (no_units c.args.register.now c.in_err-register.ensures))
+
+pub returns-in_err-k : goal.returns-in_err-k
+returns-in_err-k c =
+    let r = c.in_ok-register.ensures in
+    let p = sought _ _ _ _ _ _ r.1 c.units.ensures c.place_of.ensures c.in_err-k.was in
+    c.from_residual-in_err-k.ensures ∙ sym (missing_step c.args.register.now c.args.unit r.0 p)
 
 pub bounds-register-k : goal.bounds-register-k
 bounds-register-k c =
-    let a = c.args in
-    let e = c.wide-n.ensures.0 in
-    let h : c.place_of-k.result < 256 = place_short a.register.now a.unit c.place_of-k.result c.if-register-ne-REGISTER.false
-    (rw e at c.place_of-k.ensures) (rw e at c.if-k-n.true) in
-    omega arith
-
-pub returns-then-k-n : goal.returns-then-k-n
-returns-then-k-n c =
-    let e = c.wide-n.ensures.0 in
-    let h = rw e at c.if-k-n.true in
-    let p = rw e at c.place_of-k.ensures in (
-      sym (lt-ltb _ _ h) ∙ attached-step c.args.register.now c.args.unit c.place_of-k.result c.if-register-ne-REGISTER.false p,
-      c.wide-group.ensures.0 ∙ group_step c.args.register.now c.args.unit c.place_of-k.result c.if-register-ne-REGISTER.false p h,
-    )
+    let r = c.in_ok-register.ensures in
+    let p = sought _ _ _ _ _ _ r.1 c.units.ensures c.place_of.ensures c.in_ok-k.was in
+    let f = found_step c.args.register.now c.args.unit r.0 c.in_ok-k.k p in
+    omega (arith, f.0)
 
 pub returns : goal.returns
 returns c =
-    let e = c.wide-n.ensures.0 in
-    let h = rw e at c.if-k-n.false in
-    let p = rw e at c.place_of-k.ensures in (
-      sym (le-ltb _ _ h) ∙ attached-step c.args.register.now c.args.unit c.place_of-k.result c.if-register-ne-REGISTER.false p,
-      none-step c.args.register.now c.args.unit c.place_of-k.result c.if-register-ne-REGISTER.false p h,
-    )
+    let r = c.in_ok-register.ensures in
+    let p = sought _ _ _ _ _ _ r.1 c.units.ensures c.place_of.ensures c.in_ok-k.was in
+    let f = (found_step c.args.register.now c.args.unit r.0 c.in_ok-k.k p).1 in
+    let g = c.from.ensures in
+    cc

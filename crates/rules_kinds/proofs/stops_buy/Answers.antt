@@ -2,10 +2,10 @@
 use Rattle.rules.specs.Orders.{stops}
 use Rattle.rules_kinds.proofs.stops_buy.Goals as goal
 
-pub returns-in-Nothing : goal.returns-in-Nothing
+pub returns-in-None : goal.returns-in-None
 unfolding stops
-returns-in-Nothing c = λ amount. rw c.in-Nothing.is
+returns-in-None c = λ amount. rw c.in-None.is
 
-pub returns-in-At : goal.returns-in-At
+pub returns-in-Some : goal.returns-in-Some
 unfolding stops
-returns-in-At c = λ amount. rw (c.in-At.is, ← c.mils_of.ensures, c.accepts.ensures amount)
+returns-in-Some c = λ amount. rw (c.in-Some.is, ← c.mils_of.ensures, c.accepts.ensures amount)

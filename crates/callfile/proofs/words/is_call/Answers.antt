@@ -1,17 +1,18 @@
 -- `callfile::words::is_call` meets its contract. Assumes nothing.
-use native.Mathlib.Omega.{arith}
-use Rattle.callfile.proofs.Heard.{code_low, code_high, code_given}
+use Rattle.std.proofs.Common.{◌≡◌, ◌∙◌, eqb, length, drop, rules, tests, arith, le-leb}
+use Rattle.std.specs.List.{list_all}
+use Rattle.std.proofs.lemmas.Iterator.{YieldsList-from_slice}
+use Rattle.std.proofs.lemmas.Iterator.Adapters.{YieldsList-from_skip}
+use Rattle.std.proofs.lemmas.Iterator.Search.{all_from_yields_List}
+use Rattle.callfile.specs.Lines.{fields, is_call}
+use Rattle.callfile.proofs.Heard.{unused}
 use Rattle.callfile.proofs.words.is_call.Goals as goal
 
-pub returns-then-w-lt1 : goal.returns-then-w-lt1
-returns-then-w-lt1 c = code_low c.args.w (omega arith)
-
-pub returns-then-w-gt11 : goal.returns-then-w-gt11
-returns-then-w-gt11 c = code_high c.args.w (omega arith) (omega arith)
-
 pub returns : goal.returns
+unfolding is_call fields
 returns c =
-    let a = c.args in
-    code_given a.w c.fields-n.result c.used_or_zero.result c.used_or_zero-2.result c.used_or_zero-3.result
-    c.used_or_zero-4.result (omega arith) (omega arith) c.fields-n.ensures c.used_or_zero.ensures c.used_or_zero-2.ensures
-    c.used_or_zero-3.ensures c.used_or_zero-4.ensures
+    let fs = c.args.w.fields in
+    let code = c.args.w.code in
+    let n : length fs ≡ 4 = omega arith in
+    let e : c.all.result ≡ list_all (λ x. eqb x 0) (drop (fields code) fs) = all_from_yields_List (λ x. eqb x 0) _ _ c.all.result c.all.ensures.ran (YieldsList-from_skip (fields code) (YieldsList-from_slice fs (cc)) (cc)) (λ x b q k. search (rules, tests)) in
+    rw (le-leb 1 code (omega arith), le-leb code 11 (omega arith)) (e ∙ unused (fields code) fs n)
