@@ -1,4 +1,4 @@
--- All words of a run joined bit by bit: no word of the run is above it. Assumes nothing.
+-- All words of a run joined bit by bit: no word of the run is above it. The check of the book has the words as a slice (proofs/Money.antt). Assumes nothing.
 use Rattle.std.specs.Prelude.{ℕ, ◌+◌, ◌≤◌, ◌<◌, ◌≡◌, true, List, leb, get_or}
 use Rattle.std.proofs.Common.{arith, le-leb}
 use Rattle.std.specs.Int.Bits.{bit_or}
@@ -22,6 +22,10 @@ above_turn ws k n m a j h =
     same j n
     (λ q. rw q r)
     (λ q. let b = a j (omega arith) in omega arith)
+
+pub above_end : (ws : List ℕ) (k n p m : ℕ) → n ≤ p → p ≤ n → Above ws k n m → Above ws k p m
+unfolding Above
+above_end ws k n p m h l a j o = a j (omega arith)
 
 -- where the join is at most L, every word is
 pub above_ok : (ws : List ℕ) (k n m : ℕ) → Above ws k n m → m ≤ top_money → all_below n (λ j. leb (get_or ws (k + j) 0) top_money) ≡ true

@@ -1,56 +1,17 @@
 -- What the functions that read a line answer, over plain values. Assumes nothing.
-use Prim.Native.Nat.{ℕ, zero, suc}
+use Prim.Native.Nat.{ℕ}
 use mathlib.Core.Path.{◌≡◌, refl}
 use mathlib.Core.Bool.{Bool, true, false, ◌&&◌}
-use mathlib.Core.List.{List, [], ◌∷◌}
-use native.Mathlib.Omega.{arith}
-use borrow.Author.Tests.{le-leb, eq-eqb, ne_eqb}
-use lib.Dec.{eqb}
-use lib.ListN.{length, get_or, drop}
-use Rattle.std.specs.List.{list_all}
+use mathlib.Core.List.{List}
+use borrow.Author.Tests.{eq-eqb, ne_eqb}
+use lib.ListN.{length}
 use Rattle.rules.specs.Codes.{call_of}
 use Rattle.rules.specs.declared.calls.Call.{Call}
 use Rattle.rules.specs.Tests.{pick}
 use Rattle.std.specs.Prelude.{Option, Some, None}
 use Rattle.columns.specs.Column.{plain_at}
 use Rattle.columns.specs.Reading.{Plain, formed_plain}
-use Rattle.callfile.specs.Lines.{coded, used_or_zero, is_call, line_of, columns_formed, line_formed, malformed, formed_call, read_line, line_bytes}
-
--- ---- the words of a call
-
-and_true : (b : Bool) → (b && true) ≡ b
-and_true true = refl
-and_true false = refl
-
--- a test of each of four fields
-pub all_four : (f : ℕ → Bool) (l : List ℕ) → length l ≡ 4
-    → list_all f l ≡ (f (get_or l 0 0) && (f (get_or l 1 0) && (f (get_or l 2 0) && f (get_or l 3 0))))
-all_four f [] h = absurd (omega arith)
-all_four f (a ∷ []) h = absurd (omega arith)
-all_four f (a ∷ b ∷ []) h = absurd (omega arith)
-all_four f (a ∷ b ∷ c ∷ []) h = absurd (omega arith)
-all_four f (a ∷ b ∷ c ∷ d ∷ []) h = rw (and_true (f d))
-all_four f (a ∷ b ∷ c ∷ d ∷ e ∷ l) h = absurd (omega arith)
-
--- "unused fields are 0", of a call with n fields
-pub unused : (n : ℕ) (l : List ℕ) → length l ≡ 4
-    → list_all (λ x. eqb x 0) (drop n l) ≡ (used_or_zero n 1 (get_or l 0 0) && (used_or_zero n 2 (get_or l 1 0) && (used_or_zero n 3 (get_or l 2 0) && used_or_zero n 4 (get_or l 3 0))))
-unused n [] h = absurd (omega arith)
-unused n (a ∷ []) h = absurd (omega arith)
-unused n (a ∷ b ∷ []) h = absurd (omega arith)
-unused n (a ∷ b ∷ c ∷ []) h = absurd (omega arith)
-unused zero (a ∷ b ∷ c ∷ d ∷ []) h = rw (and_true (eqb d 0))
-unused (suc zero) (a ∷ b ∷ c ∷ d ∷ []) h = rw (and_true (eqb d 0))
-unused (suc (suc zero)) (a ∷ b ∷ c ∷ d ∷ []) h = rw (and_true (eqb d 0))
-unused (suc (suc (suc zero))) (a ∷ b ∷ c ∷ d ∷ []) h = rw (and_true (eqb d 0))
-unused (suc (suc (suc (suc n)))) (a ∷ b ∷ c ∷ d ∷ []) h =
-    let m : ℕ = suc (suc (suc (suc n))) in
-    rw (le-leb 1 m (omega arith), le-leb 2 m (omega arith), le-leb 3 m (omega arith), le-leb 4 m (omega arith)) (drop_all n)
-  where
-    drop_all : (n : ℕ) → list_all (λ x. eqb x 0) (drop {A = ℕ} n []) ≡ true
-    drop_all zero = refl
-    drop_all (suc n) = refl
-unused n (a ∷ b ∷ c ∷ d ∷ e ∷ l) h = absurd (omega arith)
+use Rattle.callfile.specs.Lines.{coded, is_call, line_of, columns_formed, line_formed, malformed, formed_call, read_line, line_bytes}
 
 -- ---- a line
 

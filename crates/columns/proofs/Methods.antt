@@ -1,5 +1,5 @@
 -- What the library's methods on slices say of a column, in the words of specs/Column.antt and specs/Scan.antt. Assumes nothing.
-use Rattle.std.proofs.Common.{ℕ, suc, ◌+◌, ◌≤◌, ◌≡◌, refl, sym, Bool, true, false, not, ◌&&◌, List, [], ◌∷◌, ◌++◌, eqb, leb, ltb, cond, length, take, drop, length-append, ◌-◌, arith, ltb-false, le-leb, Option, Some, None}
+use Rattle.std.proofs.Common.{ℕ, suc, ◌+◌, ◌≤◌, ◌≡◌, refl, sym, ◌∙◌, Bool, true, false, not, ◌&&◌, List, [], ◌∷◌, ◌++◌, eqb, leb, ltb, cond, length, length-append, ◌-◌, arith, ltb-false, le-leb, Option, Some, None}
 use Rattle.std.specs.List.{list_all, list_any, position, position_or_len}
 use Rattle.std.specs.Option.{unwrap_or}
 use Rattle.std.specs.Cmp.Lexicographic.{pointwise}
@@ -8,7 +8,7 @@ use Rattle.std.proofs.Math.Seq.{paste}
 use Rattle.std.proofs.lemmas.Slice.{put_mid-paste}
 use Rattle.std.proofs.lemmas.List.Recursion.{is_position_or_len}
 use Rattle.rules.specs.Tests.{pick}
-use Rattle.columns.specs.Column.{dashed, same, minus, part}
+use Rattle.columns.specs.Column.{dashed, same, minus}
 use Rattle.columns.specs.Scan.{blanks}
 
 -- `==`
@@ -18,11 +18,6 @@ same_is [] [] = refl
 same_is [] (y ∷ ys) = refl
 same_is (x ∷ xs) [] = refl
 same_is (x ∷ xs) (y ∷ ys) = rw (same_is xs ys)
-
-pub same_part : (t s : List ℕ) (at : ℕ) → pointwise eqb (take (at + length s - at) (drop at t)) s ≡ same (part t at (length s)) s
-same_part t s at =
-    let w : at + length s - at ≡ length s = omega arith in
-    rw w (same_is (part t at (length s)) s)
 
 -- `copy_from_slice`, and what else writes to a column of w bytes from at on
 pub put_is : (d new s : List ℕ) (at w : ℕ) → new ≡ s → length s ≡ w → put_mid at (at + w - at) d new ≡ paste d at s w
@@ -75,7 +70,14 @@ dash_is (x ∷ bs) l = rw (dash_is bs l) (first (eqb x 32))
     first true = refl
     first false = refl
 
-pub dash_last : (p b : List ℕ) (l : ℕ) → p ≡ b ++ l ∷ [] → (list_all (λ x. eqb x 32) b && eqb l 45) ≡ (leb 1 (length p) && same p (dashed (length p)))
-dash_last p b l e =
-    let n : length p ≡ suc (length b) = rw e (omega (arith, length-append b (l ∷ []))) in
-    rw (n, le-leb 1 (suc (length b)) (omega arith), e) (sym (dash_is b l))
+module _ (p b : List ℕ) (l : ℕ) (t : Bool) (e : p ≡ b ++ l ∷ []) (a : t ≡ list_all (λ x. eqb x 32) b) where
+  dash_last : (t && eqb l 45) ≡ (leb 1 (length p) && same p (dashed (length p)))
+  dash_last =
+      let n : length p ≡ suc (length b) = rw e (omega (arith, length-append b (l ∷ []))) in
+      rw (n, le-leb 1 (suc (length b)) (omega arith), e, a) (sym (dash_is b l))
+
+  pub dash_behind : t ≡ true → eqb l 45 ≡ (leb 1 (length p) && same p (dashed (length p)))
+  dash_behind k = rw k at dash_last
+
+  pub dash_not : t ≡ false → t ≡ (leb 1 (length p) && same p (dashed (length p)))
+  dash_not k = k ∙ (rw k at dash_last)

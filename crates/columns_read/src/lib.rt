@@ -1,7 +1,8 @@
 // Numbers read from columns of a text: plain, optional and signed.
 #![tactic(auto)]
 
-ghost use Rattle.std.specs.Prelude.{◌≡◌, ◌&&◌, ◌≤◌, leb, length};
+ghost use Rattle.std.specs.Prelude.{◌≡◌, ◌&&◌, ◌≤◌, eqb, leb, length, not, position};
+ghost use Rattle.std.specs.List.{list_all};
 ghost use Rattle.std.specs.Bool.{then_some};
 ghost use Rattle.columns.specs.Column.{dashed, number, same, minus, read_plain, plain_at, optional_at, signed_at};
 ghost use Rattle.columns.specs.Reading.{formed_plain, formed_optional, formed_signed};
@@ -12,18 +13,23 @@ use columns::reading::Signed;
 use columns_write::tabled::{digits_in, marked_in};
 use columns_write::written::mark_of;
 
+// The first byte that is no blank.
+fn first_mark(column: &[u8]) -> Option<usize>
+    ensures { result ≡ position (λ b. not (eqb b 32)) column.now }
+{
+    column.iter().position(|b| *b != b' ')
+}
+
 // How many blanks stand in front.
+#[tactic(auto, using(columns::proofs::Methods::blanks_is))]
 fn blanks(column: &[u8]) -> usize
     ensures { (result ≡ blanks column.now) × (result ≤ length column.now) }
 {
-    column
-        .iter()
-        .position(|b| *b != b' ')
-        .unwrap_or(column.len())
+    first_mark(column).unwrap_or(column.len())
 }
 
 // The number that digits make, where all bytes are digits.
-#[tactic(auto, using(columns::proofs::Steps::run_steps))]
+#[tactic(auto, using(columns::proofs::Steps::run_steps, columns::proofs::Steps::run_room))]
 fn run_of_digits(digits: &[u8]) -> Option<u64>
     requires { length digits.now ≤ 19 }
     ensures { result ≡ then_some (all_digits digits.now) (number digits.now) }
@@ -54,12 +60,20 @@ fn read_plain(column: &[u8]) -> Option<u64>
     run_of_digits(digits)
 }
 
+// Only blanks stand in a column.
+fn is_blank(column: &[u8]) -> bool
+    ensures { result ≡ list_all (λ b. eqb b 32) column.now }
+{
+    column.iter().all(|b| *b == b' ')
+}
+
 // Whether a column is "-".
+#[tactic(auto, using(columns::proofs::Methods::dash_behind, columns::proofs::Methods::dash_not))]
 fn is_dash(column: &[u8]) -> bool
     ensures { result ≡ (leb 1 (length column.now) && same column.now (dashed (length column.now))) }
 {
     match column.split_last() {
-        Some((last, blanks)) => blanks.iter().all(|b| *b == b' ') && *last == b'-',
+        Some((last, blanks)) => is_blank(blanks) && *last == b'-',
         None => false,
     }
 }
@@ -74,7 +88,7 @@ pub fn plain_at(text: &[u8], at: usize, w: usize) -> Option<u64>
 }
 
 // The number, or that it is missing.
-#[tactic(auto, using(columns::proofs::Answers::optional_short, columns::proofs::Answers::dash_known, columns::proofs::Answers::other_known))]
+#[tactic(auto, using(columns::proofs::Answers::optional_short, columns::proofs::Answers::dash_known, columns::proofs::Answers::other_none, columns::proofs::Answers::other_some))]
 pub fn optional_at(text: &[u8], at: usize, w: usize) -> Option<Option<u64>>
     ensures { result ≡ formed_optional (optional_at text.now at w) }
 {
@@ -86,7 +100,7 @@ pub fn optional_at(text: &[u8], at: usize, w: usize) -> Option<Option<u64>>
 }
 
 // The number and its sign.
-#[tactic(auto, using(columns::proofs::Answers::signed_short))]
+#[tactic(auto, using(columns::proofs::Answers::signed_short, columns::proofs::Answers::signed_known))]
 pub fn signed_at(text: &[u8], at: usize, w: usize) -> Option<Signed>
     ensures { result ≡ formed_signed (signed_at text.now at w) }
 {

@@ -18,7 +18,7 @@ pub fn digit(b: u8) -> u64
 
 // The number that the digits of a column make.
 // Kept (rule): "A constant table of the nineteen powers of ten serves writer and reader"; a plain column is taken in by tens in `columns_read`.
-#[tactic(auto, using(columns::proofs::Steps::sum_on, columns::proofs::Steps::sum_fits, columns::proofs::Steps::sum_over))]
+#[tactic(auto, using(columns::proofs::Steps::sum_steps))]
 fn number_of(column: &[u8]) -> u64
     requires { length column.now ≤ 19 }
     ensures { result ≡ number column.now }

@@ -9,7 +9,8 @@ use columns::bytes::holds;
 use columns::reading::Signed;
 use columns_powers::{fits, optional_fits, signed_fits};
 
-// Kept (no plainer): `n < 10 ^ 19`, past which the table ends, stands in four private contracts; public functions test it once, by `fits` or `MOST`.
+// Kept (no plainer): `n < 10 ^ 19`, past which the table ends, stands in four private contracts; public functions test it once, by `fits` or `MOST`. A type of
+// such numbers would be made at that test and read at each byte, with the bound said in its invariant and again where the power is looked up.
 // Whether place k, counted from 0 at the right, is in front of the first digit of n.
 #[tactic(auto, using(columns::proofs::Steps::blank_far))]
 fn is_blank(n: u64, k: usize) -> bool
@@ -23,6 +24,7 @@ fn glyph(d: u64) -> u8
     requires { d < 10 }
     ensures { result ≡ 48 + d }
 {
+    // Kept (no plainer): a digit is below 10; `u8::try_from` would add a case that never comes.
     b'0' + (d as u8)
 }
 
@@ -39,7 +41,7 @@ pub(crate) fn byte_at(mark: u8, n: u64, k: usize) -> u8
 }
 
 // n right-justified into a column, with the mark directly before its first digit.
-#[tactic(auto, using(crate::proofs::Puts::marked_on, crate::proofs::Puts::marked_whole))]
+#[tactic(auto, using(crate::proofs::Puts::marked_on, columns::specs::Laws::length_marked, std::proofs::lemmas::List::take_all))]
 fn put_marked(column: &mut [u8], mark: u8, n: u64)
     requires { n < 10 ^ 19 }
     ensures { column.new ≡ marked mark (length column.old) n }

@@ -2,15 +2,14 @@
 use Prim.Native.Nat.{ℕ, zero, suc, ◌+◌, ◌*◌, ◌-◌, ◌/◌, ◌≤◌, ◌<◌, min}
 use mathlib.Core.Path.{◌≡◌, refl, sym, ap, subst, ◌∙◌}
 use mathlib.Core.Bool.{Bool, true, false, not}
-use mathlib.Core.List.{List, [], ◌++◌, append_assoc, append-nil}
-use native.Mathlib.Nat.{add_assoc, zero-add, suc-add}
+use mathlib.Core.List.{List, [], ◌++◌, append-nil}
 use native.Mathlib.Numerals.{add-one}
 use native.Mathlib.Omega.{arith}
-use borrow.Author.Tests.{le-leb, lt-ltb, le-ltb, eq-eqb}
+use borrow.Author.Tests.{le-leb, lt-leb, lt-ltb, le-ltb, eq-eqb}
 use lib.Dec.{eqb}
 use lib.ListN.{length, take, drop, get_or, length-append, length-drop}
-use lib.Seq.{paste, drop-drop}
-use Rattle.std.specs.Prelude.{Option, Some, None, cond, position, unwrap_or, ltb}
+use lib.Seq.{paste}
+use Rattle.std.specs.Prelude.{Some, None, cond, position, unwrap_or, ltb, leb, ◌&&◌}
 use Rattle.std.specs.List.{position_or_len, list_any}
 use Rattle.std.proofs.lemmas.List.Recursion.{is_position_or_len}
 use Rattle.std.proofs.lemmas.List.Sums.{position_or_len_is, prefix_len-le-length}
@@ -25,21 +24,23 @@ use Rattle.rules.specs.declared.calls.Answer.{Answer}
 use Rattle.columns.specs.Pastes.{chain_on}
 use Rattle.columns.specs.Laws.{length_marked}
 use Rattle.claim.specs.Step.{Memory, Stepped}
-use Rattle.callfile.specs.Lines.{answer_text, answer_fits, answer_put}
-use Rattle.day.specs.Day.{line_step, held_to, printed, line_length, is_whole, first_line, behind_line, Told, none_told, before, told, told_in, Answered, rest_text, file_step, file_text, LoadAnswered}
+use Rattle.callfile.specs.Lines.{answer_text, answer_fits, answer_put, line_bytes}
+use Rattle.day.specs.Chunks.{joined, first_told, told_pieces}
+use Rattle.day.specs.Pieces.{told-done}
+use Rattle.day.specs.Day.{line_step, held_to, printed, line_length, is_whole, first_line, behind_line, Told, none_told, before, told, told_in, Answered, rest_text, file_step, file_text}
 
 -- ---- an answer printed
 
-pub length-printed : (a : Answer) → length (printed a) ≡ 10
+pub printed_long : (a : Answer) → length (printed a) ≡ 10
 unfolding printed answer_text
-length-printed a = simp (length-append, length_marked)
+printed_long a = simp (length-append, length_marked)
 
 held_fits : (a : Answer) → answer_fits (held_to a) ≡ true
 held_fits a = rw (lt-ltb (min a.refusal 999) 1_000 (omega arith), lt-ltb (min a.number 999_999) 1_000_000 (omega arith))
 
-pub printed-put : (d : List ℕ) (at : ℕ) (a held : Answer) (d' : List ℕ) → at + 10 ≤ length d → held ≡ held_to a → d' ≡ answer_put d at held → d' ≡ paste d at (printed a) 10
+pub printed_put : (d : List ℕ) (at : ℕ) (a : Answer) → at + 10 ≤ length d → paste d at (printed a) 10 ≡ answer_put d at (held_to a)
 unfolding printed answer_put
-printed-put d at a held d' h e p = p ∙ ap (answer_put d at) e ∙ rw (le-leb (at + 10) (length d) h, held_fits a) refl
+printed_put d at a h = rw (le-leb (at + 10) (length d) h, held_fits a) refl
 
 -- ---- where a line ends
 
@@ -56,25 +57,22 @@ pub line_within : (t : List ℕ) → line_length t ≤ length t
 line_within t = omega (arith, line_length_is t, prefix_len-le-length (λ b. not (eqb b 10)) t)
 
 -- the first line feed, where there is one
-feed_is : (t : List ℕ) → unwrap_or (position (λ b. eqb b 10) t) (length t) ≡ line_length t
+pub feed_is : (t : List ℕ) → line_length t ≡ unwrap_or (position (λ b. eqb b 10) t) (length t)
 feed_is t = go (ltb (position_or_len (λ b. eqb b 10) t) (length t)) refl
   where
-    go : (b : Bool) → ltb (position_or_len (λ b. eqb b 10) t) (length t) ≡ b → unwrap_or (cond b (Some (position_or_len (λ b. eqb b 10) t)) None) (length t) ≡ line_length t
-    go true e = sym (line_length_is t)
+    go : (b : Bool) → ltb (position_or_len (λ b. eqb b 10) t) (length t) ≡ b → line_length t ≡ unwrap_or (cond b (Some (position_or_len (λ b. eqb b 10) t)) None) (length t)
+    go true e = line_length_is t
     go false e = omega (arith, line_length_is t, ltb-false (position_or_len (λ b. eqb b 10) t) (length t) e, prefix_len-le-length (λ b. not (eqb b 10)) t)
 
-pub feed_in : (t : List ℕ) (r : Option ℕ) → r ≡ position (λ b. eqb b 10) t → unwrap_or r (length t) ≡ line_length t
-feed_in t r e = ap (λ (x : Option ℕ). unwrap_or x (length t)) e ∙ feed_is t
-
--- where none of the first n bytes is a line feed and the next is one
-pub line_of : (t : List ℕ) (n : ℕ) → n < length t → list_any (λ b. eqb b 10) (take n t) ≡ false → get_or t n 0 ≡ 10 → n ≡ line_length t
-line_of t n h none e = sym (line_length_is t ∙ position_or_len_is (λ b. eqb b 10) t n 0 (omega arith) before_n (λ _. eq-eqb (get_or t n 0) 10 e))
+-- where none of the bytes of a call line is a line feed and the next is one
+pub line_of : (t : List ℕ) → line_bytes < length t → list_any (λ b. eqb b 10) (take line_bytes t) ≡ false → get_or t line_bytes 0 ≡ 10 → line_length t ≡ line_bytes
+line_of t h none e = line_length_is t ∙ position_or_len_is (λ b. eqb b 10) t line_bytes 0 (omega arith) before_n (λ _. eq-eqb (get_or t line_bytes 0) 10 e)
   where
-    before_n : (k : ℕ) → k < n → eqb (get_or t k 0) 10 ≡ false
+    before_n : (k : ℕ) → k < line_bytes → eqb (get_or t k 0) 10 ≡ false
     before_n k l = go (eqb (get_or t k 0) 10) refl
       where
         go : (b : Bool) → eqb (get_or t k 0) 10 ≡ b → b ≡ false
-        go true w = absurd (false≢true (sym none ∙ list_any_at (λ b. eqb b 10) (take n t) k 0 (omega (arith, length-take-le n t (omega arith))) (ap (λ x. eqb x 10) (get_or-take n t k 0 l) ∙ w)))
+        go true w = absurd (false≢true (sym none ∙ list_any_at (λ b. eqb b 10) (take line_bytes t) k 0 (omega (arith, length-take-le line_bytes t (omega arith))) (ap (λ x. eqb x 10) (get_or-take line_bytes t k 0 l) ∙ w)))
         go false w = refl
 
 -- ---- lines told
@@ -93,7 +91,7 @@ told_text (suc n) m t = go (told_text n (line_step m (first_line t)).memory (beh
     go : length rest.text ≡ 10 * rest.lines → (b : Bool) → length (pick b (before s (line_length t) rest) (none_told m)).text ≡ 10 * (pick b (before s (line_length t) rest) (none_told m)).lines
     go ih true =
         let a : length (printed s.answer ++ rest.text) ≡ length (printed s.answer) + length rest.text = length-append (printed s.answer) rest.text in
-        omega (arith, a, length-printed s.answer, ih)
+        omega (arith, a, printed_long s.answer, ih)
     go ih false = refl
 
 pub told-lines : (n : ℕ) (m : Memory) (t : List ℕ) → (told n m t).lines ≤ n
@@ -115,112 +113,35 @@ extended r t =
       memory = (line_step r.memory (first_line (drop r.used t))).memory;
     }
 
--- two tellings are the same if their parts are
-same-told : (l l' u u' : ℕ) (x x' : List ℕ) (m m' : Memory) → l ≡ l' → u ≡ u' → x ≡ x' → m ≡ m'
-    → ◌≡◌ {A = Told} (record { lines = l; used = u; text = x; memory = m }) (record { lines = l'; used = u'; text = x'; memory = m' })
-same-told l l' u u' x x' m m' el eu ex em = cc
-
--- where a first line was told, there is one
-whole_first : (n : ℕ) (m : Memory) (t : List ℕ) (k : ℕ) → (told (suc n) m t).lines ≡ suc k → is_whole t ≡ true
+-- nothing behind what is told
+one_told : (r : Told) (s : Stepped) (e : ℕ) (t : List ℕ) (m : Memory) → joined r (before s e (told 0 m t)) ≡ record { lines = suc r.lines; used = r.used + suc e; text = r.text ++ printed s.answer; memory = m }
 unfolding told
-whole_first n m t k e = go (is_whole t) refl e
-  where
-    go : (b : Bool) → is_whole t ≡ b → (pick b (before (line_step m (first_line t)) (line_length t) (told n (line_step m (first_line t)).memory (behind_line t))) (none_told m)).lines ≡ suc k → is_whole t ≡ true
-    go true w z = w
-    go false w z = absurd (omega (arith, z))
+one_told r s e t m =
+    let n : r.lines + 1 ≡ suc r.lines = omega arith in
+    let u : suc e + 0 ≡ suc e = omega arith in
+    rw (n, u, append-nil (printed s.answer)) refl
 
-told_first : (n : ℕ) (m : Memory) (t : List ℕ) → is_whole t ≡ true → told (suc n) m t ≡ before (line_step m (first_line t)) (line_length t) (told n (line_step m (first_line t)).memory (behind_line t))
-unfolding told
-told_first n m t w = rw w refl
-
-told_none : (n : ℕ) (m : Memory) (t : List ℕ) → is_whole t ≡ false → told n m t ≡ none_told m
-unfolding told
-told_none zero m t w = refl
-told_none (suc n) m t w = rw w refl
-
+-- the law of pieces (specs/Chunks.antt), with one more line to tell of a text and nothing behind it
 pub told_more : (k : ℕ) (m : Memory) (t : List ℕ) → (told k m t).lines ≡ k → is_whole (drop (told k m t).used t) ≡ true → told (suc k) m t ≡ extended (told k m t) t
-unfolding told
-told_more zero m t l w = one ∙ same-told 1 1 (suc (line_length t) + 0) (0 + suc (line_length t)) (printed (line_step m (first_line t)).answer ++ []) (printed (line_step m (first_line t)).answer) (line_step m (first_line t)).memory (line_step m (first_line t)).memory refl u (append-nil (printed (line_step m (first_line t)).answer)) refl
+told_more k m t l w =
+    ap (λ (x : ℕ). told x m t) one
+    ∙ ap (told (r.lines + 1) m) (sym (append-nil t))
+    ∙ told_pieces k m t [] 1
+    ∙ ap (λ (x : List ℕ). joined r (told 1 r.memory x)) (append-nil left)
+    ∙ ap (joined r) (first_told 0 r.memory left w)
+    ∙ one_told r s (line_length left) (behind_line left) s.memory
   where
-    one : told 1 m t ≡ before (line_step m (first_line t)) (line_length t) (none_told (line_step m (first_line t)).memory)
-    one = told_first 0 m t w
+    r : Told
+    r = told k m t
 
-    u : suc (line_length t) + 0 ≡ 0 + suc (line_length t)
-    u = omega arith
-told_more (suc k) m t l w = shifted (told_more k s.memory t' l' w')
-  where
-    whole : is_whole t ≡ true
-    whole = whole_first k m t k l
+    left : List ℕ
+    left = drop r.used t
 
     s : Stepped
-    s = line_step m (first_line t)
+    s = line_step r.memory (first_line left)
 
-    t' : List ℕ
-    t' = behind_line t
-
-    rest : Told
-    rest = told k s.memory t'
-
-    is : told (suc k) m t ≡ before s (line_length t) rest
-    is = told_first k m t whole
-
-    l' : rest.lines ≡ k
-    l' =
-        let e : (told (suc k) m t).lines ≡ suc rest.lines = ap (λ (r : Told). r.lines) is in
-        omega (arith, e, l)
-
-    there : drop (told (suc k) m t).used t ≡ drop rest.used t'
-    there = ap (λ (r : Told). drop r.used t) is ∙ sym (drop-drop rest.used (suc (line_length t)) t)
-
-    w' : is_whole (drop rest.used t') ≡ true
-    w' = ap is_whole (sym there) ∙ w
-
-    shifted : told (suc k) s.memory t' ≡ extended rest t' → told (suc (suc k)) m t ≡ extended (told (suc k) m t) t
-    shifted ih =
-        let a : told (suc (suc k)) m t ≡ before s (line_length t) (extended rest t') = told_first (suc k) m t whole ∙ ap (before s (line_length t)) ih in
-        let b : extended (told (suc k) m t) t ≡ extended (before s (line_length t) rest) t = ap (λ (r : Told). extended r t) is in
-        let d : drop (suc (line_length t) + rest.used) t ≡ drop rest.used t' = sym (drop-drop rest.used (suc (line_length t)) t) in
-        let u : suc (line_length t) + (rest.used + suc (line_length (drop rest.used t'))) ≡ suc (line_length t) + rest.used + suc (line_length (drop rest.used t')) =
-        sym (add_assoc (suc (line_length t)) rest.used (suc (line_length (drop rest.used t')))) in
-        let x : List ℕ = printed (line_step rest.memory (first_line (drop rest.used t'))).answer in
-        a
-        ∙ same-told _ _ _ _ _ _ _ _ refl
-        (u ∙ ap (λ (z : List ℕ). suc (line_length t) + rest.used + suc (line_length z)) (sym d))
-        (sym (append_assoc (printed s.answer) rest.text x) ∙ ap (λ (z : List ℕ). (printed s.answer ++ rest.text) ++ printed (line_step rest.memory (first_line z)).answer) (sym d))
-        (ap (λ (z : List ℕ). (line_step rest.memory (first_line z)).memory) (sym d))
-        ∙ sym b
-
--- no whole line left: no more is told
-pub told_all_lem : (k : ℕ) (m : Memory) (t : List ℕ) → (told k m t).lines ≡ k → is_whole (drop (told k m t).used t) ≡ false → (j : ℕ) → told (k + j) m t ≡ told k m t
-unfolding told
-told_all_lem zero m t l w j = ap (λ (x : ℕ). told x m t) (zero-add j) ∙ told_none j m t w
-told_all_lem (suc k) m t l w j = shifted (told_all_lem k s.memory t' l' w' j)
-  where
-    whole : is_whole t ≡ true
-    whole = whole_first k m t k l
-
-    s : Stepped
-    s = line_step m (first_line t)
-
-    t' : List ℕ
-    t' = behind_line t
-
-    rest : Told
-    rest = told k s.memory t'
-
-    is : told (suc k) m t ≡ before s (line_length t) rest
-    is = told_first k m t whole
-
-    l' : rest.lines ≡ k
-    l' =
-        let e : (told (suc k) m t).lines ≡ suc rest.lines = ap (λ (r : Told). r.lines) is in
-        omega (arith, e, l)
-
-    w' : is_whole (drop rest.used t') ≡ false
-    w' = ap is_whole (drop-drop rest.used (suc (line_length t)) t ∙ ap (λ (r : Told). drop r.used t) (sym is)) ∙ w
-
-    shifted : told (k + j) s.memory t' ≡ rest → told (suc k + j) m t ≡ told (suc k) m t
-    shifted ih = ap (λ (x : ℕ). told x m t) (suc-add k j) ∙ told_first (k + j) m t whole ∙ ap (before s (line_length t)) ih ∙ sym is
+    one : suc k ≡ r.lines + 1
+    one = omega (arith, l)
 
 -- ---- the loop over the lines of a text: after k lines it stands at i
 
@@ -299,7 +220,7 @@ module _ (m₀ : Memory) (t out₀ : List ℕ) (k i e : ℕ) (m : Memory) (out :
       let here : drop (told k m₀ t).used t ≡ drop i t = ap (λ (x : ℕ). drop x t) r.used in
       let none : is_whole (drop (told k m₀ t).used t) ≡ false = ap is_whole here ∙ le-ltb (line_length (drop i t)) (length (drop i t)) (omega (arith, left_over, ends, z)) in
       let j : n ≡ k + (n - k) = omega arith in
-      ap (λ (x : ℕ). told x m₀ t) j ∙ told_all_lem k m₀ t r.lines none (n - k)
+      ap (λ (x : ℕ). told x m₀ t) j ∙ told-done k (n - k) m₀ t none
 
 -- what the function answers: as many lines as were told
 pub all_answered : (m₀ : Memory) (t out₀ : List ℕ) (k i : ℕ) (m : Memory) (out : List ℕ) → Reached m₀ t out₀ k i m out → told (length out₀ / 10) m₀ t ≡ told k m₀ t
@@ -316,26 +237,32 @@ all_answered m₀ t out₀ k i m out r e =
 -- ---- what is left at the end
 
 module _ (rest : ℕ) (out : List ℕ) where
-  pub rest_printed : (a : Answer) (out' : List ℕ) → 1 ≤ rest → 10 ≤ length out → a ≡ refused malformed_number → out' ≡ paste out 0 (printed a) 10
-      → (10 ≡ length (rest_text rest out)) × (out' ≡ paste out 0 (rest_text rest out) (length (rest_text rest out)))
+  pub rest_line : 1 ≤ rest → 10 ≤ length out → rest_text rest out ≡ printed (refused malformed_number)
   unfolding rest_text
-  rest_printed a out' h l e p =
-      rw (le-leb 1 rest h, le-leb 10 (length out) l)
-      (sym (length-printed (refused malformed_number)), p ∙ ap (λ (x : Answer). paste out 0 (printed x) 10) e ∙ ap (λ (x : ℕ). paste out 0 (printed (refused malformed_number)) x) (sym (length-printed (refused malformed_number))))
+  rest_line h l = rw (le-leb 1 rest h, le-leb 10 (length out) l) refl
+
+  pub rest_none : rest < 1 → rest_text rest out ≡ []
+  unfolding rest_text
+  rest_none h = rw (lt-leb 1 rest h) refl
+
+  pub rest_no_room : length out < 10 → rest_text rest out ≡ []
+  unfolding rest_text
+  rest_no_room l = go (leb 1 rest)
+    where
+      f : leb 10 (length out) ≡ false
+      f = lt-leb 10 (length out) l
+
+      go : (b : Bool) → pick (b && leb 10 (length out)) (printed (refused malformed_number)) [] ≡ []
+      go true = rw f refl
+      go false = refl
 
 -- ---- a file of ratios
 
 module _ (m : Memory) (file out : List ℕ) where
-  pub load_printed : (m' : Memory) (a : Answer) (out' : List ℕ) → 10 ≤ length out → a ≡ (file_step m file).answer → m' ≡ (file_step m file).memory → out' ≡ paste out 0 (printed a) 10
-      → LoadAnswered m file out 10 m' out'
+  pub file_line : 10 ≤ length out → file_text m file out ≡ printed (file_step m file).answer
   unfolding file_text
-  load_printed m' a out' l e q p =
-      let n = length-printed (file_step m file).answer in
-      record {
-        bytes = rw (le-leb 10 (length out) l) (sym n);
-        memory = q;
-        buffer = rw (le-leb 10 (length out) l) (p ∙ ap (λ (x : Answer). paste out 0 (printed x) 10) e ∙ ap (λ (x : ℕ). paste out 0 (printed (file_step m file).answer) x) (sym n));
-      }
+  file_line l = rw (le-leb 10 (length out) l) refl
 
-pub held_is : (a : Answer) (r n : ℕ) → r ≡ min a.refusal 999 → n ≡ min a.number 999_999 → ◌≡◌ {A = Answer} (record { refusal = r; number = n }) (held_to a)
-held_is a r n er en = rw (er, en)
+  pub file_no_room : length out < 10 → file_text m file out ≡ []
+  unfolding file_text
+  file_no_room l = rw (lt-leb 10 (length out) l) refl

@@ -52,7 +52,7 @@ none_left (suc n) m t h = go (is_whole t) refl (none_left n (line_step m (first_
     go false w ih = w
 
 -- more turns change nothing where no line is left
-told-done : (n k : ℕ) (m : Memory) (t : List ℕ) → is_whole (drop (told n m t).used t) ≡ false → told (n + k) m t ≡ told n m t
+pub told-done : (n k : ℕ) (m : Memory) (t : List ℕ) → is_whole (drop (told n m t).used t) ≡ false → told (n + k) m t ≡ told n m t
 unfolding told
 told-done zero k m t w = ap (λ (x : ℕ). told x m t) (zero-add k) ∙ none k
   where

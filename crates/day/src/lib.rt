@@ -29,6 +29,7 @@ pub fn answer_line(gate: &mut Gate<'_>, line: &[u8]) -> Result<u64, Refusal>
 }
 
 // An answer's ten bytes from at on.
+#[tactic(auto, using(crate::proofs::Telling::printed_put))]
 fn put_printed(out: &mut [u8], at: usize, answer: Answer)
     requires { at + 10 ≤ length out.old }
     ensures { out.new ≡ paste out.old at (printed answer) 10 }
@@ -47,6 +48,7 @@ fn first_feed(text: &[u8]) -> Option<usize>
 }
 
 // Whether a text's first line is as long as a call line, told without a look at its bytes one by one.
+#[tactic(auto, using(crate::proofs::Telling::line_of))]
 fn is_call_long(text: &[u8]) -> bool
     ensures { result ≡ true → line_bytes ≡ line_length text.now }
 {
@@ -58,6 +60,7 @@ fn is_call_long(text: &[u8]) -> bool
 }
 
 // Where a text's first line ends: at its line feed, or at the end of the text. Most lines are as long as a call line.
+#[tactic(auto, using(crate::proofs::Telling::line_within, crate::proofs::Telling::feed_is))]
 fn line_end(text: &[u8]) -> usize
     ensures end { result ≡ line_length text.now }
     ensures within { result ≤ length text.now }
@@ -75,6 +78,7 @@ pub struct Progress {
     pub written: usize,
 }
 
+// Kept (no plainer): answer k by its place, 10 × k: a line that is not whole ends it in the middle, with what was written till then.
 // Answers the whole lines of a text, as many as there is room for answers.
 pub fn answer_lines(gate: &mut Gate<'_>, text: &[u8], out: &mut [u8]) -> Progress
     ensures answered { Answered (told_in out.old (memory_in gate.old) text.now) out.old result (memory_in gate.new) out.new }
@@ -101,7 +105,7 @@ pub fn answer_lines(gate: &mut Gate<'_>, text: &[u8], out: &mut [u8]) -> Progres
 }
 
 // What is left of an input after its last line feed is a line too: malformed. Answers how many bytes were written.
-#[tactic(auto, using(std::proofs::lemmas::List::Edits::paste_none), unfolding(crate::specs::Day::rest_text))]
+#[tactic(auto, using(std::proofs::lemmas::List::Edits::paste_none, crate::proofs::Telling::printed_long, crate::proofs::Telling::rest_line, crate::proofs::Telling::rest_none, crate::proofs::Telling::rest_no_room))]
 pub fn answer_rest(rest: usize, out: &mut [u8]) -> usize
     ensures { (result ≡ length (rest_text rest out.old)) × (out.new ≡ paste out.old 0 (rest_text rest out.old) (length (rest_text rest out.old))) }
 {
@@ -114,7 +118,7 @@ pub fn answer_rest(rest: usize, out: &mut [u8]) -> usize
 
 // Kept (no plainer): three slices: the gate is made after the load, which reads book and places alone, and asks no caller for a loan to write them.
 // The text of a file of ratios loaded (2026-01), and its answer at the start of the buffer. Answers how many bytes were written.
-#[tactic(auto, using(std::proofs::lemmas::List::Edits::paste_none), unfolding(crate::specs::Day::file_text))]
+#[tactic(auto, using(std::proofs::lemmas::List::Edits::paste_none, crate::proofs::Telling::printed_long, crate::proofs::Telling::file_line, crate::proofs::Telling::file_no_room))]
 pub fn answer_load(
     register: &mut [u32],
     book: &[u64],

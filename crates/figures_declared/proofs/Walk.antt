@@ -1,12 +1,13 @@
 -- A declarer's place as the library's `position` gives it, a sum from an index on, and eight places moved down. Assumes nothing.
-use Prim.Native.Nat.{ℕ, suc, ◌+◌, ◌-◌, ◌≤◌, ◌<◌, min}
-use Rattle.std.specs.Prelude.{Some, None, position}
+use Prim.Native.Nat.{ℕ, zero, suc, ◌+◌, ◌-◌, ◌≤◌, ◌<◌, min}
+use Rattle.std.specs.Prelude.{Option, Some, None, position}
 use mathlib.Core.Path.{◌≡◌, refl, sym, ap, ◌∙◌}
 use mathlib.Core.List.{List, [], ◌∷◌, ◌++◌}
 use native.Mathlib.Numerals.{add-one}
 use native.Mathlib.Omega.{arith}
 use mathlib.Core.Bool.{Bool, true, false}
 use borrow.Author.Tests.{leb-true, leb-false}
+use Rattle.std.proofs.Math.Dec.{eqb-suc-suc, eqb-suc-zero, eqb-zero-suc}
 use lib.Dec.{eqb, leb}
 use lib.ListN.{length, get_or, drop, take, set, drop_of_length-le, length-append, length-drop}
 use lib.Seq.{drop-cons, length-take-le, take_all, paste, set_at}
@@ -17,8 +18,10 @@ use Rattle.rules.specs.Tests.{pick}
 use Rattle.rules.specs.Sums.{sum_over}
 use Rattle.figures.specs.declared.Figures.{Figures}
 use Rattle.figures.specs.Places.{place_in, closed_up}
-use Rattle.figures.specs.Figures.{standing_of, place_of, place_there}
-use Rattle.figures.specs.Laws.{standing-length, standing-place}
+use Rattle.figures.specs.Figures.{standing_of, place_of, place_there, held, sum_of}
+use Rattle.figures.specs.Laws.{standing-length, standing-place, place-stands, not_full, sum-places}
+use Rattle.rules.specs.Money.{millions}
+use Rattle.rules.specs.declared.money.Millions.{Millions}
 
 -- the first n of eight elements, where n is held to eight
 pub take-eight {ℓ} : {A : Type ℓ} (n : ℕ) (xs : List A) → length xs ≡ 8 → take (min n 8) xs ≡ take n xs
@@ -32,21 +35,29 @@ take-eight n xs e = go (leb n 8) refl
 pub standing_most : (f : Figures) → length f.declarers ≡ 8 → length f.quotas ≡ 8 → length (standing_of f) ≤ 8
 standing_most f d q = omega (arith, standing-length f d q)
 
-place_position_or_len : (k : ℕ) (js : List ℕ) → place_in k js ≡ position_or_len (λ j. eqb j k) js
-unfolding place_in
-place_position_or_len k js = is_position_or_len (place_in k) (λ j. eqb j k) refl (λ x xs. let u : 1 + place_in k xs ≡ suc (place_in k xs) = omega arith in ap (λ (n : ℕ). pick (eqb x k) 0 n) (sym u)) js
+swapped : (a b : ℕ) → eqb a b ≡ eqb b a
+swapped zero zero = refl
+swapped zero (suc b) = eqb-zero-suc b ∙ sym (eqb-suc-zero b)
+swapped (suc a) zero = eqb-suc-zero a ∙ sym (eqb-zero-suc a)
+swapped (suc a) (suc b) = eqb-suc-suc a b ∙ swapped a b ∙ sym (eqb-suc-suc b a)
 
-pub place_position : (f : Figures) (d : ℕ) → length f.declarers ≡ 8 → length f.quotas ≡ 8
-    → position (λ j. eqb j d) (take (length (standing_of f)) f.declarers) ≡ place_there f d
+place_position_or_len : (k : ℕ) (js : List ℕ) → place_in k js ≡ position_or_len (eqb k) js
+unfolding place_in
+place_position_or_len k js =
+    is_position_or_len (place_in k) (eqb k) refl
+    (λ x xs. let u : 1 + place_in k xs ≡ suc (place_in k xs) = omega arith in ap (λ (b : Bool). pick b 0 (suc (place_in k xs))) (swapped x k) ∙ ap (λ (n : ℕ). pick (eqb k x) 0 n) (sym u)) js
+
+-- the first of those that stand, by the library's `position`
+pub place_first : (f : Figures) (d n : ℕ) (o : Option ℕ) → length f.declarers ≡ 8 → length f.quotas ≡ 8 → n ≡ length (standing_of f)
+    → o ≡ position (eqb d) (take n f.declarers) → place_there f d ≡ o
 unfolding place_of
-place_position f d de qe =
-    let n = standing-length f de qe in
-    let t : take (length (standing_of f)) f.declarers ≡ take f.standing f.declarers = ap (λ (k : ℕ). take k f.declarers) n ∙ take-eight f.standing f.declarers de in
+place_first f d n o de qe ne oe =
+    let k = standing-length f de qe in
+    let t : take n f.declarers ≡ take f.standing f.declarers = ap (λ (k : ℕ). take k f.declarers) (ne ∙ k) ∙ take-eight f.standing f.declarers de in
     let s = standing-place f de qe d in
-    let l : length (take (length (standing_of f)) f.declarers) ≡ length (standing_of f) = length-take-le (length (standing_of f)) f.declarers (omega arith) in
-    let p : position_or_len (λ j. eqb j d) (take (length (standing_of f)) f.declarers) ≡ place_of f d =
-    ap (position_or_len (λ j. eqb j d)) t ∙ sym (place_position_or_len d (take f.standing f.declarers)) in
-    rw (s, p, l)
+    let l : length (take n f.declarers) ≡ length (standing_of f) = length-take-le n f.declarers (omega arith) ∙ ne in
+    let p : position_or_len (eqb d) (take n f.declarers) ≡ place_of f d = ap (position_or_len (eqb d)) t ∙ sym (place_position_or_len d (take f.standing f.declarers)) in
+    sym (oe ∙ rw (s, p, l))
 
 module _ {A : Type 0} (m : A → ℕ) (z : A) (xs : List A) (i : ℕ) where
   -- a sum from index i on
@@ -70,18 +81,20 @@ closing_end {A} l p x e hp =
     ∙ ap (λ (r : List A). set (take p l ++ drop (suc p) l ++ r) 7 x) (drop-cons l 7 x (omega arith) ∙ ap (λ (r : List A). get_or l 7 x ∷ r) (drop_of_length-le l {i = 8} (omega arith)))
     ∙ set_at (take p l ++ drop (suc p) l) (get_or l 7 x) [] x 7 s
 
--- what a place says that is given, or is not
-module _ (f : Figures) (d : ℕ) where
-  pub place_given : (p : ℕ) → Some p ≡ place_there f d → (is_there (find d (standing_of f)) ≡ true) × (p ≡ place_of f d)
-  place_given p e = go (is_there (find d (standing_of f))) e refl
-    where
-      go : (b : Bool) → Some p ≡ pick b (Some (place_of f d)) None → is_there (find d (standing_of f)) ≡ b → (is_there (find d (standing_of f)) ≡ true) × (p ≡ place_of f d)
-      go true h k = (k, (cc))
-      go false h k = absurd (cc)
+-- as many stand as are said to, eight at most
+pub ruleset standing_counted = (standing-length)
 
-  pub place_not_given : None ≡ place_there f d → is_there (find d (standing_of f)) ≡ false
-  place_not_given e = go (is_there (find d (standing_of f))) e refl
-    where
-      go : (b : Bool) → None ≡ pick b (Some (place_of f d)) None → is_there (find d (standing_of f)) ≡ b → is_there (find d (standing_of f)) ≡ false
-      go true h k = absurd (cc)
-      go false h k = k
+-- a place that is given is one of those that stand
+pub place_stands : (f : Figures) (d : ℕ) (p : ℕ) → length f.declarers ≡ 8 → length f.quotas ≡ 8 → place_there f d ≡ Some p → (p < 8) × (p < f.standing)
+place_stands f d p de qe e = go (is_there (find d (standing_of f))) refl e
+  where
+    go : (b : Bool) → is_there (find d (standing_of f)) ≡ b → pick b (Some (place_of f d)) None ≡ Some p → (p < 8) × (p < f.standing)
+    go true h k = let s = place-stands f de qe d h in let u : place_of f d ≡ p = cc in (omega arith, omega arith)
+    go false h k = absurd (cc)
+
+-- the sum of the first of the places, as many as stand
+pub sum_of_first : (f : Figures) (s n : ℕ) → length f.declarers ≡ 8 → length f.quotas ≡ 8 → n ≡ length (standing_of f) → s ≡ sum_over held (take n f.quotas) → millions s ≡ sum_of f
+sum_of_first f s n de qe e h =
+    ap millions
+    (h ∙ ap (λ (k : ℕ). sum_over held (take k f.quotas)) (e ∙ standing-length f de qe) ∙ ap (λ (l : List Millions). sum_over held l) (take-eight f.standing f.quotas qe))
+    ∙ sym (sum-places f de qe)

@@ -13,6 +13,7 @@ ghost use Rattle.figures.specs.Figures.{standing_of, sum_of, held, place_there, 
 use figures::Figures;
 use rules::limits::{MOST_DECLARERS, TOP_QUOTA};
 use rules::money::Millions;
+use words::first_of;
 
 // No figure stands.
 pub fn no_figures() -> Figures
@@ -26,6 +27,7 @@ pub fn no_figures() -> Figures
 }
 
 // How many figures stand.
+#[tactic(auto, using(crate::proofs::Walk::standing_counted))]
 pub fn count_of(figures: Figures) -> u64
     ensures { result ≡ length (standing_of figures) }
 {
@@ -40,14 +42,12 @@ pub fn is_full(figures: Figures) -> bool
 }
 
 // The place of a declarer's figure.
-#[tactic(auto, using(crate::proofs::Walk::standing_most))]
+#[tactic(auto, using(crate::proofs::Walk::standing_most, crate::proofs::Walk::place_first))]
 fn place_of(figures: Figures, declarer: u64) -> Option<usize>
     ensures { result ≡ place_there figures declarer }
 {
     let searched = count_of(figures) as usize;
-    figures.declarers[..searched]
-        .iter()
-        .position(|other| *other == declarer)
+    first_of(&figures.declarers[..searched], declarer)
 }
 
 // The declarer has a figure standing.
@@ -58,6 +58,7 @@ pub fn stands(figures: Figures, declarer: u64) -> bool
 }
 
 // The sum of figures, each held to the range of quotas.
+#[tactic(auto, using(crate::proofs::Walk::sum_over_on, crate::proofs::Walk::sum_over_end))]
 fn sum_in(quotas: &[Millions]) -> u64
     requires { length quotas.now ≤ 8 }
     ensures { result ≡ sum_over held quotas.now }
@@ -70,7 +71,7 @@ fn sum_in(quotas: &[Millions]) -> u64
 }
 
 // "the sum of standing figures" (Quotas)
-#[tactic(auto, using(crate::proofs::Walk::standing_most))]
+#[tactic(auto, using(crate::proofs::Walk::standing_most, crate::proofs::Walk::sum_of_first))]
 pub fn sum_of(figures: Figures) -> Millions
     ensures { result ≡ sum_of figures }
 {
@@ -78,35 +79,30 @@ pub fn sum_of(figures: Figures) -> Millions
     Millions(sum_in(&figures.quotas[..summed]))
 }
 
-// Kept (no plainer): `place < 8` stands in three private contracts, each proved from the search that gave the place.
+// Kept (no plainer): `place < 8` in three private contracts: the search that gives a place proves it; a type would need a law, and be opened at each use.
 // The figures with the quota at a place.
-fn replaced(figures: Figures, place: usize, quota: Millions) -> Figures
+fn replaced(mut figures: Figures, place: usize, quota: Millions) -> Figures
     requires { place < 8 }
     ensures { result ≡ replaced_figures figures place quota }
 {
-    let mut quotas = figures.quotas;
-    quotas[place] = quota;
-    Figures { quotas, ..figures }
+    figures.quotas[place] = quota;
+    figures
 }
 
 // The figures with one more.
-fn added(figures: Figures, declarer: u64, quota: Millions) -> Figures
+fn added(mut figures: Figures, declarer: u64, quota: Millions) -> Figures
     requires { figures.standing < 8 }
     ensures { result ≡ added_figures figures declarer quota }
 {
     let place = figures.standing as usize;
-    let mut declarers = figures.declarers;
-    let mut quotas = figures.quotas;
-    declarers[place] = declarer;
-    quotas[place] = quota;
-    Figures {
-        standing: figures.standing + 1,
-        declarers,
-        quotas,
-    }
+    figures.declarers[place] = declarer;
+    figures.quotas[place] = quota;
+    figures.standing += 1;
+    figures
 }
 
 // "The last figure of each declarer stands": in the place of its former one, else after the others. A ninth is not taken. (Quotas)
+#[tactic(auto, using(crate::proofs::Walk::place_stands, figures::specs::Laws::not_full), unfolding(figures::specs::Figures::declared_figures))]
 pub fn declared(figures: Figures, declarer: u64, quota: Millions) -> Figures
     ensures { result ≡ declared_figures figures declarer quota }
 {
@@ -118,14 +114,14 @@ pub fn declared(figures: Figures, declarer: u64, quota: Millions) -> Figures
 }
 
 // The entries after a place moved down by one, and `none` in the last place.
-fn closed_up<T: Copy>(entries: [T; 8], place: usize, none: T) -> [T; 8]
+#[tactic(auto, using(crate::proofs::Walk::closing_end))]
+fn closed_up<T: Copy>(mut entries: [T; 8], place: usize, none: T) -> [T; 8]
     requires { place < 8 }
     ensures { result ≡ closed_up place none entries }
 {
-    let mut next = entries;
-    next.copy_within(place + 1.., place);
-    next[7] = none;
-    next
+    entries.copy_within(place + 1.., place);
+    entries[7] = none;
+    entries
 }
 
 // The figures without that of a place.
@@ -141,6 +137,7 @@ fn closed(figures: Figures, place: usize) -> Figures
 }
 
 // "and a withdrawn place is used again": the later figures move down, in their order. (Quotas)
+#[tactic(auto, using(crate::proofs::Walk::place_stands), unfolding(figures::specs::Figures::withdrawn_figures))]
 pub fn withdrawn(figures: Figures, declarer: u64) -> Figures
     ensures { result ≡ withdrawn_figures figures declarer }
 {

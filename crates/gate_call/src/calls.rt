@@ -25,7 +25,7 @@ fn answered(
     ensures answer { told result ≡ (step shanghai (memory register.old book.old places.old) c).answer }
     ensures after { memory register.new book.new places.new ≡ (step shanghai (memory register.old book.old places.old) c).memory }
 {
-    // Kept (no plainer): a match over the enum of calls, its fields named.
+    // Kept (no plainer): which call it is, an enum says, and a match names the fields that each takes; a table of functions would want one list of them.
     match c {
         Call::Enrol { code, class } => guarded_enrol(register, book, places, code, class),
         Call::Attach { unit, group } => guarded_attach(register, book, places, unit, group),

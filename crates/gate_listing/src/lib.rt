@@ -10,7 +10,7 @@ ghost use Rattle.claim.specs.Step.{memory};
 
 use listing::keys::{Key, all_differ};
 use listing::lines::{ROW, put_row};
-use orders::host::host_ok;
+use orders::host::sound;
 use quota::asks::groups_enrolled;
 use rows::row_at;
 use rules::limits::MOST_GROUPS;
@@ -18,6 +18,7 @@ use rules::refusals::{Refusal, refuse};
 
 // Kept (no plainer): `listing_text::lines_kept` is the same loop over lines; one function of both would take a closure, and its contract at both.
 // Whether the rows of the first n groups keep their rules, no code with its class repeated.
+#[tactic(auto, using(crate::proofs::Rows::keys_more, crate::proofs::Rows::rest_more, crate::proofs::Rows::rest_none, crate::proofs::Rows::rest_all, crate::proofs::Rows::code_at, crate::proofs::Rows::class_at, crate::proofs::Rows::none_on, crate::proofs::Rows::kept_where, crate::proofs::Rows::none_kept, std::proofs::lemmas::List::take_more_set, std::proofs::lemmas::Grind::common_steps))]
 fn rows_kept(register: &[u32], book: &[u64], n: usize) -> bool
     requires { n ≤ 64 }
     ensures { result ≡ rows_kept (rows_on register.now book.now 0 n) }
@@ -43,13 +44,15 @@ fn refusal_of_listing(
 ) -> Result<(), Refusal>
     ensures { refusal_number result ≡ list_refusal (memory register.now book.now places.now) room }
 {
-    refuse(!host_ok(register, book, places), Refusal::Unsound)?;
+    sound(register, book, places)?;
     let n = groups_enrolled(register) as usize;
     refuse(!rows_kept(register, book, n), Refusal::Unsound)?;
     refuse(room < ROW * n, Refusal::ShortBuffer)
 }
 
+// Kept (no plainer): row i by its place, 108 × i, as in `listing_rooms`.
 // The rows of the first n groups, one behind the other from the buffer's start.
+#[tactic(auto, using(crate::proofs::Rows::put_step, crate::proofs::Rows::kept_first, crate::proofs::Rows::kept_where, crate::proofs::Rows::none_kept))]
 fn put_rows(register: &[u32], book: &[u64], n: usize, buffer: &mut [u8])
     requires { (row_bytes * n ≤ length buffer.old) × (rows_kept (rows_on register.now book.now 0 n) ≡ true) }
     ensures { buffer.new ≡ paste buffer.old 0 (listing_text (rows_on register.now book.now 0 n)) (row_bytes * n) }
@@ -63,6 +66,7 @@ fn put_rows(register: &[u32], book: &[u64], n: usize, buffer: &mut [u8])
 
 // Kept (rule): three slices and no `gate::Gate`: C lends them to be read alone (`const`). So it is for a row (`rows::row_of`).
 // The gate's listing.
+#[tactic(auto, using(crate::proofs::Rows::list_is, rules::specs::Numbers::refused_is), unfolding(crate::specs::Listed::listed, crate::specs::Listed::gate_rows))]
 pub fn write(
     register: &[u32],
     book: &[u64],

@@ -27,7 +27,7 @@ pub fn refusal_of_opening(register: &[u32], book: &[u64], places: &[u64]) -> Res
 }
 
 // A fresh gate: nothing enrolled or attached, no order, the old ratios, N as many as the places lent.
-#[tactic(auto, using(crate::proofs::Opened::open_known), unfolding(claim::specs::Opening::open_register, claim::specs::Opening::open_book))]
+#[tactic(auto, using(crate::proofs::Opened::open_fits), unfolding(claim::specs::Opening::open_register, claim::specs::Opening::open_book))]
 pub fn open(register: &mut [u32], book: &mut [u64], places: &[u64]) -> Result<(), Refusal>
     ensures answer { refusal_number result ≡ open_refusal (memory register.old book.old places.now) }
     ensures register { register.new ≡ open_register (memory register.old book.old places.now) }

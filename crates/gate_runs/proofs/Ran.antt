@@ -1,5 +1,6 @@
 -- A lent list of calls: one turn of the loop, and its end. Assumes nothing.
 use Prim.Native.Nat.{ℕ, zero, suc, ◌+◌, ◌*◌, ◌≤◌}
+use Rattle.std.proofs.Common.{◌⊎◌, inl, inr}
 use mathlib.Core.Path.{◌≡◌, refl, sym, ap, ◌∙◌}
 use mathlib.Core.Bool.{Bool, true, false, ◌&&◌}
 use mathlib.Core.List.{List, [], ◌∷◌, ◌++◌, append-nil}
@@ -17,7 +18,7 @@ use Rattle.rules.specs.declared.calls.Answer.{Answer}
 use Rattle.words.specs.Words.{splice, stored}
 use Rattle.claim.specs.Step.{Memory, step}
 use Rattle.claim.specs.Demand.{run, answers_of}
-use Rattle.gate_runs.specs.Runs.{call_at, decoded, call_count, calls_of, answer_words, run_refusal, run_memory, run_answers}
+use Rattle.gate_runs.specs.Runs.{call_at, decoded, call_count, answer_words, run_refusal}
 
 -- one call more at the end of a list
 module _ (rule : Rule) (c : Call) where
@@ -68,39 +69,50 @@ behind w a xs k e h =
 abbrev pub room_after : Memory → List ℕ → List ℕ → ℕ → List ℕ
 room_after m ws out i = answer_words (answers_of shanghai m (decoded ws i)) ++ drop (2 * i) out
 
+-- the lengths that fit
+room_known : (ws out : List ℕ) → run_refusal ws out ≡ 0 → length out ≡ 2 * call_count ws
+unfolding run_refusal
+room_known ws out e = go (eqb (length ws) (5 * call_count ws) && eqb (length out) (2 * call_count ws)) refl e
+  where
+    go : (t : Bool) → (eqb (length ws) (5 * call_count ws) && eqb (length out) (2 * call_count ws)) ≡ t → pick t 0 out_of_range_number ≡ 0 → length out ≡ 2 * call_count ws
+    go true q z = eqb-true (length out) (2 * call_count ws) (both (eqb (length ws) (5 * call_count ws)) (eqb (length out) (2 * call_count ws)) q).1
+    go false q z = absurd (omega arith)
+
+-- the same, as tactics can use it
+pub room_fits : (ws out : List ℕ) → (1 ≤ run_refusal ws out) ⊎ (length out ≡ 2 * call_count ws)
+room_fits ws out = go (run_refusal ws out) refl
+  where
+    go : (r : ℕ) → run_refusal ws out ≡ r → (1 ≤ run_refusal ws out) ⊎ (length out ≡ 2 * call_count ws)
+    go zero e = inr (room_known ws out e)
+    go (suc r) e = inl (omega arith)
+
 module _ (m₀ : Memory) (ws out : List ℕ) where
   -- the start
-  pub start_memory : m₀ ≡ run shanghai m₀ (decoded ws 0)
+  pub start_memory : run shanghai m₀ (decoded ws 0) ≡ m₀
   unfolding run decoded
   start_memory = refl
 
-  pub start_room : out ≡ room_after m₀ ws out 0
+  pub start_room : room_after m₀ ws out 0 ≡ out
   unfolding answers_of answer_words decoded
   start_room = refl
 
   -- a turn
-  module _ (i : ℕ) (m : Memory) (e : m ≡ run shanghai m₀ (decoded ws i)) where
-    pub turn_memory : (m' : Memory) → m' ≡ (step shanghai m (call_at ws i)).memory → m' ≡ run shanghai m₀ (decoded ws (i + 1))
+  module _ (i : ℕ) where
+    pub turn_memory : run shanghai m₀ (decoded ws (i + 1)) ≡ (step shanghai (run shanghai m₀ (decoded ws i)) (call_at ws i)).memory
     unfolding decoded
-    turn_memory m' f =
-        rw add-one (f ∙ ap (λ (x : Memory). (step shanghai x (call_at ws i)).memory) e ∙ sym (run_snoc shanghai (call_at ws i) m₀ (decoded ws i)))
+    turn_memory = rw add-one (run_snoc shanghai (call_at ws i) m₀ (decoded ws i))
 
-    pub turn_room : (o o' : List ℕ) → 2 * i + 2 ≤ length out → o ≡ room_after m₀ ws out i
-        → o' ≡ stored o (2 * i) ((step shanghai m (call_at ws i)).answer.refusal ∷ (step shanghai m (call_at ws i)).answer.number ∷ [])
-        → o' ≡ room_after m₀ ws out (i + 1)
-    turn_room o o' h p f = f ∙ ap (λ (x : List ℕ). stored x (2 * i) (pair m)) p ∙ ap (λ (x : Memory). stored (room_after m₀ ws out i) (2 * i) (pair x)) e ∙ after ∙ last
+    abbrev pair : Memory → List ℕ
+    pair x = (step shanghai x (call_at ws i)).answer.refusal ∷ (step shanghai x (call_at ws i)).answer.number ∷ []
+
+    pub turn_room : 2 * i + 2 ≤ length out → stored (room_after m₀ ws out i) (2 * i) (pair (run shanghai m₀ (decoded ws i))) ≡ room_after m₀ ws out (i + 1)
+    turn_room h = behind told out (pair (run shanghai m₀ (decoded ws i))) (2 * i) size h ∙ last
       where
-        pair : Memory → List ℕ
-        pair x = (step shanghai x (call_at ws i)).answer.refusal ∷ (step shanghai x (call_at ws i)).answer.number ∷ []
-
         told : List ℕ
         told = answer_words (answers_of shanghai m₀ (decoded ws i))
 
         size : length told ≡ 2 * i
         size = length-words shanghai m₀ (decoded ws i) ∙ ap (λ (z : ℕ). 2 * z) (length-decoded ws i)
-
-        after : stored (told ++ drop (2 * i) out) (2 * i) (pair (run shanghai m₀ (decoded ws i))) ≡ (told ++ pair (run shanghai m₀ (decoded ws i))) ++ drop (2 * i + 2) out
-        after = behind told out (pair (run shanghai m₀ (decoded ws i))) (2 * i) size h
 
         more : answer_words (answers_of shanghai m₀ (decoded ws i ++ (call_at ws i ∷ []))) ≡ told ++ pair (run shanghai m₀ (decoded ws i))
         more = ap answer_words (answers_snoc shanghai (call_at ws i) m₀ (decoded ws i)) ∙ words_snoc (step shanghai (run shanghai m₀ (decoded ws i)) (call_at ws i)).answer (answers_of shanghai m₀ (decoded ws i))
@@ -115,27 +127,6 @@ module _ (m₀ : Memory) (ws out : List ℕ) where
             ∙ ap (λ (z : List Call). answer_words (answers_of shanghai m₀ z) ++ drop (2 * i + 2) out) (sym next)
             ∙ ap (λ (z : ℕ). answer_words (answers_of shanghai m₀ (decoded ws (i + 1))) ++ drop z out) k
 
-  -- the lengths that fit
-  pub run_known : run_refusal ws out ≡ 0 → (length ws ≡ 5 * call_count ws) × (length out ≡ 2 * call_count ws)
-  unfolding run_refusal
-  run_known e = go (eqb (length ws) (5 * call_count ws) && eqb (length out) (2 * call_count ws)) refl e
-    where
-      go : (t : Bool) → (eqb (length ws) (5 * call_count ws) && eqb (length out) (2 * call_count ws)) ≡ t → pick t 0 out_of_range_number ≡ 0 → (length ws ≡ 5 * call_count ws) × (length out ≡ 2 * call_count ws)
-      go true q z =
-          let a = both (eqb (length ws) (5 * call_count ws)) (eqb (length out) (2 * call_count ws)) q in
-          (eqb-true (length ws) (5 * call_count ws) a.0, eqb-true (length out) (2 * call_count ws) a.1)
-      go false q z = absurd (omega arith)
-
-  -- done
-  pub run-done : (i : ℕ) (m : Memory) (o : List ℕ) → 0 ≡ run_refusal ws out → i ≡ call_count ws → m ≡ run shanghai m₀ (decoded ws i) → o ≡ room_after m₀ ws out i
-      → (m ≡ run_memory m₀ ws out) × (o ≡ run_answers m₀ ws out)
-  unfolding run_memory run_answers
-  run-done i m o e k p f =
-      let q : run_refusal ws out ≡ 0 = sym e in
-      let l = run_known q in
-      let h : length out ≤ 2 * call_count ws = omega arith in
-      let d : drop (2 * call_count ws) out ≡ [] = drop_of_length-le out h in
-      rw q (
-        p ∙ ap (λ (x : ℕ). run shanghai m₀ (decoded ws x)) k,
-        f ∙ ap (λ (x : ℕ). room_after m₀ ws out x) k ∙ ap (λ (x : List ℕ). answer_words (answers_of shanghai m₀ (calls_of ws)) ++ x) d ∙ append-nil (answer_words (answers_of shanghai m₀ (calls_of ws))),
-      )
+    -- done: no room is left behind the answers
+    pub room_full : length out ≤ 2 * i → room_after m₀ ws out i ≡ answer_words (answers_of shanghai m₀ (decoded ws i))
+    room_full h = rw (drop_of_length-le out h) (append-nil (answer_words (answers_of shanghai m₀ (decoded ws i))))

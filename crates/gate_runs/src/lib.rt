@@ -23,6 +23,7 @@ pub const CALL_WORDS: usize = 5;
 
 pub const ANSWER_WORDS: usize = 2;
 
+// Kept (no plainer): specs/Runs.antt and proofs/Ran.antt read call i at words 5 * i; over `as_chunks::<5>()` a law that item i is those words would be needed.
 // Call i of the words.
 #[tactic(auto, unfolding(crate::specs::Runs::call_at))]
 fn call_at(calls: &[u64], i: usize) -> Call
@@ -57,7 +58,7 @@ fn refusal_of_run(calls: &[u64], answers: &[u64]) -> Result<(), Refusal>
 
 // Kept (no plainer): the calls are read and the answers written, in two memories of the host.
 // Every call in order, each with its answer; nothing is done where the lengths do not fit.
-#[tactic(auto, unfolding(crate::specs::Runs::run_memory, crate::specs::Runs::run_answers))]
+#[tactic(auto, using(crate::proofs::Ran::start_memory, crate::proofs::Ran::start_room, crate::proofs::Ran::room_fits, crate::proofs::Ran::turn_memory, crate::proofs::Ran::turn_room, crate::proofs::Ran::room_full), unfolding(crate::specs::Runs::run_memory, crate::specs::Runs::run_answers))]
 pub fn run(gate: &mut Gate<'_>, calls: &[u64], answers: &mut [u64]) -> Result<(), Refusal>
     ensures answer { refusal_number result ≡ run_refusal calls.now answers.old }
     ensures after { Leaves gate.old gate.new (run_memory (memory_in gate.old) calls.now answers.old) }
@@ -71,7 +72,7 @@ pub fn run(gate: &mut Gate<'_>, calls: &[u64], answers: &mut [u64]) -> Result<()
     Ok(())
 }
 
-// Kept (proof): the same over the three memories one by one; a gate made of three parameters stands in a function of its own.
+// Kept (proof): `search` turns `Leaves` of a gate into the three memories, here alone; in `run_from_opening` the answer `returns` would have to.
 fn run_lent(
     register: &mut [u32],
     book: &mut [u64],

@@ -30,7 +30,9 @@ use streams::read_text;
 // "Program `gateday` has N = 2,048": so many places, in words. (Lines and columns)
 const PLACES: usize = PLACE_WORDS * 2048;
 
+// Kept (no plainer): sink, gate and buffer side by side: a struct of the three loans would have the sink's type and their lifetimes, and be taken apart here.
 // The text's lines, as many as there is room for answers, answered and printed. Answers how many bytes they took.
+#[tactic(auto, using(day::specs::Laws::told_used))]
 fn print_some<W: Write>(
     sink: &mut Sink<W>,
     gate: &mut Gate<'_>,
@@ -46,6 +48,7 @@ fn print_some<W: Write>(
 }
 
 // Every whole line of the text answered and printed. Answers how many bytes they took.
+#[tactic(auto, using(crate::proofs::Told::turn_used, crate::proofs::Told::turn_memory, crate::proofs::Told::turn_within, crate::proofs::Told::none_used, crate::proofs::Told::none_memory, crate::proofs::Told::ends_used, crate::proofs::Told::ends_memory, day::specs::Pieces::cut_all, day::specs::Pieces::room_for_one))]
 fn print_lines<W: Write>(
     sink: &mut Sink<W>,
     gate: &mut Gate<'_>,
@@ -80,6 +83,7 @@ fn print_end<W: Write>(sink: &mut Sink<W>, gate: &Gate<'_>, rest: usize, out: &m
 
 // The whole source, line by line, or until a write fails. A loop has to end, and nothing says that a source does: it counts its turns up to a
 // number that no run reaches.
+#[tactic(auto, using(crate::proofs::Told::kept_fits, std::proofs::lemmas::Grind::common_steps))]
 fn print_day<R: Read, W: Write>(
     source: &mut R,
     sink: &mut Sink<W>,
@@ -112,6 +116,7 @@ const MOST_PATH: usize = 4096;
 // One byte more than a file of ratios has: a file that fills it is none, whatever follows.
 const MOST_RATIOS: usize = FILE_BYTES + 1;
 
+// Kept (no plainer): no bytes for a file that is not there: the answer is that of a text which is none, and nothing else asks.
 // The text of the file that the second argument names; no bytes where it can't be opened, as one whose name isn't UTF-8.
 fn ratios_named<E: Env + Files>(rt: &E, text: &mut [u8]) -> usize
     ensures { result ≤ length text.old }

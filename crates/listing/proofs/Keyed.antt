@@ -9,15 +9,15 @@ use Rattle.rows.specs.Kept.{Ruled, ruled}
 use Rattle.rows.specs.declared.Row.{Row}
 use Rattle.listing.specs.declared.keys.Key.{Key}
 use Rattle.listing.specs.Text.{key_of, same_key, fresh, rows_kept, row_in, row_good, rows_from, rows_good, row_bytes}
-use Rattle.listing.specs.Keys.{held_key, equal, keys_differ, line_key, lines_kept}
+use Rattle.listing.specs.Keys.{equal, keys_differ, line_key, lines_kept}
 
 -- a row that keeps its rules has no number above 32 bits: what is held is its key
-pub kept_key : (r : Row) → row_kept r ≡ true → held_key r ≡ key_of r
-kept_key r h =
-    let k : Ruled r = ruled r h in
-    let code : min r.code 4_294_967_295 ≡ r.code = omega arith in
-    let class : min r.class 4_294_967_295 ≡ r.class = omega arith in
-    rw (code, class)
+module _ (r : Row) (h : row_kept r ≡ true) where
+  pub code_held : min r.code 4_294_967_295 ≡ r.code
+  code_held = let k : Ruled r = ruled r h in omega (arith, k.code)
+
+  pub class_held : min r.class 4_294_967_295 ≡ r.class
+  class_held = let k : Ruled r = ruled r h in omega (arith, k.class)
 
 either : (a b : ℕ) → eqb a b ≡ eqb b a
 either a b = go (eqb b a) refl

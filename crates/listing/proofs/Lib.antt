@@ -1,3 +1,2 @@
 pub mod Lined
 pub mod Keyed
-pub mod Kept

@@ -1,18 +1,20 @@
 -- One row: nine columns put one behind the other are the row's text, and the line that stands at a place of a text. Assumes nothing.
-use Prim.Native.Nat.{ℕ, ◌+◌, ◌-◌, ◌≤◌}
+use Prim.Native.Nat.{ℕ, ◌+◌, ◌*◌, ◌/◌, ◌≤◌, ◌<◌}
 use mathlib.Core.Path.{◌≡◌, refl, ap, ◌∙◌}
 use mathlib.Core.Bool.{Bool, true}
 use mathlib.Core.List.{List, [], ◌∷◌, ◌++◌}
 use native.Mathlib.Omega.{arith}
-use lib.ListN.{length, take, drop, length-append}
+use lib.ListN.{length, get_or, length-append}
 use lib.Seq.{paste, length-paste}
-use Rattle.columns.specs.Column.{column, optional_text, signed_text, fits, optional_fits, signed_fits, part, plain_put, optional_put, signed_put, text_put}
+use Rattle.columns.specs.Column.{column, optional_text, signed_text, fits, optional_fits, signed_fits, plain_put, optional_put, signed_put, text_put}
 use Rattle.columns.specs.Laws.{length_marked, length_optional, length-signed}
-use Rattle.columns.specs.Pastes.{chain, plain_put_lem, optional_put_lem, signed-put, text_put_lem}
-use Rattle.rows.specs.Row.{row_kept}
+use Rattle.columns.specs.Pastes.{chain, whole, plain_put_lem, optional_put_lem, signed-put, text_put_lem}
+use Rattle.rows.specs.Row.{row_kept, no_row}
 use Rattle.rows.specs.declared.Row.{Row}
-use Rattle.listing.specs.Text.{is_set, millions_in, limit_put, limits_put, row_text, row_bytes}
-use Rattle.listing.specs.RowLaws.{Fitting, fitting}
+use Rattle.listing.specs.Text.{is_set, millions_in, limit_put, limits_put, row_text, row_bytes, is_listing, rows_in, step_at, step_in}
+use Rattle.listing.specs.Laws.{hands_out}
+use Rattle.listing.specs.declared.texts.Step.TheVariants.{Next}
+use Rattle.listing.specs.RowLaws.{Fitting, fitting, length-row}
 
 -- ---- written
 
@@ -44,7 +46,7 @@ module _ (d : List ℕ) (at : ℕ) (p a : List ℕ) (m w : ℕ) (g : Grown d at 
   pub signed-more : (q : List ℕ) (below : Bool) (n : ℕ) → signed_fits w below n ≡ true → q ≡ signed_put p (at + m) w below n → Grown d at q (a ++ signed_text w below n) (m + w)
   signed-more q below n f e = more q (signed_text w below n) (length-signed w below n) (e ∙ signed-put p (at + m) w below n room f)
 
-pub row_written : (d : List ℕ) (at : ℕ) (r : Row) (d₁ d₂ d₄ d₅ d₆ d₇ d₈ d₉ : List ℕ) → at + row_bytes ≤ length d → row_kept r ≡ true
+row_columns : (d : List ℕ) (at : ℕ) (r : Row) (d₁ d₂ d₄ d₅ d₆ d₇ d₈ d₉ : List ℕ) → at + row_bytes ≤ length d → row_kept r ≡ true
     → d₁ ≡ plain_put d at 5 r.code
     → d₂ ≡ plain_put d₁ (at + 5) 2 r.class
     → d₄ ≡ limits_put d₂ (at + 7) r.maximum r.own
@@ -55,7 +57,7 @@ pub row_written : (d : List ℕ) (at : ℕ) (r : Row) (d₁ d₂ d₄ d₅ d₆ 
     → d₉ ≡ text_put d₈ (at + 107) (10 ∷ [])
     → d₉ ≡ paste d at (row_text r) row_bytes
 unfolding row_text
-row_written d at r d₁ d₂ d₄ d₅ d₆ d₇ d₈ d₉ h k e₁ e₂ e₄ e₅ e₆ e₇ e₈ e₉ =
+row_columns d at r d₁ d₂ d₄ d₅ d₆ d₇ d₈ d₉ h k e₁ e₂ e₄ e₅ e₆ e₇ e₈ e₉ =
     let f : Fitting r = fitting r k in
     let g₁ : Grown d at d₁ (column 5 r.code) 5 = record { is = e₁ ∙ plain_put_lem d at 5 r.code (omega arith) f.code; long = length_marked 32 5 r.code } in
     let g₂ : Grown d at d₂ _ 7 = plain_more d at d₁ _ 5 2 g₁ (omega arith) d₂ r.class f.class e₂ in
@@ -69,10 +71,15 @@ row_written d at r d₁ d₂ d₄ d₅ d₆ d₇ d₈ d₉ h k e₁ e₂ e₄ e�
     let g₈ : Grown d at d₈ _ 107 = plain_more d at d₇ _ 86 21 g₇ (omega arith) d₈ r.money.sold.0 f.sold e₈ in
     (more d at d₈ _ 107 1 g₈ (omega arith) d₉ (10 ∷ []) refl (e₉ ∙ text_put_lem d₈ (at + 107) (10 ∷ []) (room d at d₈ _ 107 1 g₈ (omega arith)))).is
 
+-- a line of 108 bytes that the nine columns are put into
+pub row_written : (d : List ℕ) (r : Row) → length d ≡ row_bytes → row_kept r ≡ true
+    → text_put (plain_put (plain_put (plain_put (signed_put (limit_put (limit_put (plain_put (plain_put d 0 5 r.code) 5 2 r.class) 7 r.maximum) 15 r.own) 23 21 r.below r.net.0) 44 21 r.money.«open».0) 65 21 r.money.bought.0) 86 21 r.money.sold.0) 107 (10 ∷ [])
+    ≡ row_text r
+row_written d r h k = row_columns d 0 r _ _ _ _ _ _ _ _ (omega arith) k refl refl refl refl refl refl refl refl ∙ whole d (row_text r) row_bytes h (length-row r)
+
 -- ---- read
 
--- the bytes of a line at a place
-pub cut : (t : List ℕ) (at : ℕ) → take (at + row_bytes - at) (drop at t) ≡ part t at row_bytes
-cut t at =
-    let e : at + row_bytes - at ≡ row_bytes = omega arith in
-    ap (λ (n : ℕ). take n (drop at t)) e
+-- what stands in a listing at the place of a row: the row
+pub row_handed : (t : List ℕ) (at n : ℕ) → n ≡ 0 → is_listing t ≡ true → at ≡ row_bytes * (at / row_bytes) → at / row_bytes < length (rows_in t) → step_in t at n ≡ Next (get_or (rows_in t) (at / row_bytes) no_row)
+unfolding step_in
+row_handed t at n z h p l = rw z (ap (λ (k : ℕ). step_at t k) p ∙ hands_out t (at / row_bytes) no_row h l)

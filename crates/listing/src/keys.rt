@@ -10,7 +10,7 @@ pub struct Key {
     pub class: u32,
 }
 
-// Held to 32 bits, so that the keys of 64 rows take 512 bytes of the stack: a row that keeps its rules has none that is more (`kept_key`).
+// Held to 32 bits, so that the keys of 64 rows take 512 bytes of the stack: a row that keeps its rules has none that is more (`code_held`, `class_held`).
 impl From<Row> for Key {
     ghost from_gives = { λ row key. key ≡ held_key row };
 

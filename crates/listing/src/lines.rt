@@ -21,6 +21,7 @@ fn put_limit(line: &mut [u8], at: usize, limit: Option<Millions>)
 }
 
 // The columns of a row that keeps its rules, so that each has room.
+#[tactic(auto, using(crate::proofs::Lined::row_written))]
 fn write_row(line: &mut [u8], row: Row)
     requires { (length line.old ≡ row_bytes) × (row_kept row ≡ true) }
     ensures { line.new ≡ row_text row }

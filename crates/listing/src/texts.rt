@@ -2,7 +2,7 @@
 use rows::Row;
 
 // What stands at a place of a text: a row, something else, or too few bytes for a row.
-// Kept (rule): "one thin step function" has three answers, and the laws are over `Step`; `Option<Result<Row, _>>` would tell the three too.
+// Kept (no plainer): three answers by name; `Option<Result<Row, _>>` would say a broken line as an error with nothing in it, in the laws too.
 #[derive(Clone, Copy)]
 pub enum Step {
     Next(Row),

@@ -46,6 +46,7 @@ fn put_left(out: &mut [u8], at: usize, room: Option<Net>)
 }
 
 // The line of a row that keeps its rules.
+#[tactic(auto, using(crate::proofs::Lined::room_written))]
 fn put_room(line: &mut [u8], row: Row)
     requires { (length line.old ≡ room_bytes) × (row_kept row ≡ true) }
     ensures { line.new ≡ room_text row }
@@ -56,7 +57,10 @@ fn put_room(line: &mut [u8], row: Row)
     put_text(line, 28, b"\n");
 }
 
+// Kept (no plainer): that a text is a listing stands in three private contracts, here and in `router`: a reader is made of other texts too, and keeps why not.
+// Kept (no plainer): line i by its place, 29 × i: the laws paste a text into a buffer, and chunks of it would have to be put together again.
 // The line of row i of a listing, which the reader hands out next.
+#[tactic(auto, using(listing::proofs::Lined::row_handed, crate::proofs::Lined::room_length, listing::specs::Rooms::row_keeps, columns::proofs::Methods::put_is))]
 fn put_next(reader: &mut ListingReader, i: usize, out: &mut [u8])
     requires checked { refusal_number reader.old.checked ≡ 0 }
     requires place { reader.old.at ≡ row_bytes * i }
@@ -72,6 +76,7 @@ fn put_next(reader: &mut ListingReader, i: usize, out: &mut [u8])
 }
 
 // The lines of the n rows of a listing, by a reader at its start.
+#[tactic(auto, using(crate::proofs::Lined::rooms_step, listing::specs::Laws::moves_on))]
 fn put_rooms(mut reader: ListingReader, n: usize, out: &mut [u8])
     requires checked { refusal_number reader.checked ≡ 0 }
     requires place { reader.at ≡ 0 }
@@ -85,6 +90,7 @@ fn put_rooms(mut reader: ListingReader, n: usize, out: &mut [u8])
 }
 
 // " 21" and a line feed.
+#[tactic(auto, using(crate::proofs::Lined::refused_written))]
 fn put_refused(out: &mut [u8])
     requires { 4 ≤ length out.old }
     ensures { out.new ≡ paste out.old 0 refused_text 4 }
@@ -94,6 +100,7 @@ fn put_refused(out: &mut [u8])
 }
 
 // The rooms of a text into a buffer of 1,856 bytes or more. Answers how many bytes it wrote.
+#[tactic(auto, using(rules::specs::Numbers::refused_is, crate::proofs::Lined::count_rows, crate::proofs::Lined::few_rows, listing::specs::Rooms::length_rooms), unfolding(listing::specs::Rooms::rooms_length, listing::specs::Rooms::rooms_put, listing::specs::Rooms::rooms_of, columns::specs::Column::marked))]
 pub fn write_rooms(text: &[u8], out: &mut [u8]) -> usize
     ensures { (result ≡ rooms_length text.now (length out.old)) × (out.new ≡ rooms_put text.now out.old) }
 {

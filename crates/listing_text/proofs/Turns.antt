@@ -1,18 +1,30 @@
--- What is read of a line that is a row, and of one that is none. Assumes nothing.
-use Rattle.std.proofs.Common.{◌≡◌, refl, sym, ap, ◌∙◌, ℕ, Bool, true, false, ◌&&◌, List, Some, None, eqb, length}
-use Rattle.rules.specs.Tests.{pick, both}
+-- What is read of a line that is a row, and the lines read one after the other. Assumes nothing.
+use Rattle.std.proofs.Common.{◌≡◌, ap, ◌∙◌, ℕ, ◌+◌, ◌<◌, true, ◌&&◌, List, [], ◌∷◌, ◌++◌, eqb, length, take, get_or, map, min}
+use Rattle.std.proofs.lemmas.List.{take_more, map-append}
+use Rattle.std.proofs.lemmas.List.Folds.{list_all_more}
+use Rattle.std.specs.List.{list_all}
+use Rattle.rules.specs.Tests.{both}
 use Rattle.rows.specs.Row.{row_kept}
-use Rattle.rows.specs.declared.Row.{Row}
-use Rattle.listing.specs.Text.{key_of, row_in, row_formed, row_good, read_line, row_bytes}
+use Rattle.listing.specs.Text.{row_in, row_formed, row_good, row_bytes}
+use Rattle.listing.proofs.Keyed.{code_held, class_held}
 use Rattle.listing.specs.Keys.{line_key}
 
-good_kept : (l : List ℕ) → row_good l ≡ true → row_kept (row_in l) ≡ true
-unfolding row_good
-good_kept l g = (both (row_formed l) (row_kept (row_in l)) (both (eqb (length l) row_bytes) (row_formed l && row_kept (row_in l)) g).1).1
+-- the numbers of a line's key are held as they are
+module _ (l : List ℕ) (g : row_good l ≡ true) where
+  good_kept : row_kept (row_in l) ≡ true
+  unfolding row_good
+  good_kept = (both (row_formed l) (row_kept (row_in l)) (both (eqb (length l) row_bytes) (row_formed l && row_kept (row_in l)) g).1).1
 
-pub row_read : (l : List ℕ) (r : Row) → read_line l ≡ Some r → (row_good l ≡ true) × (key_of r ≡ line_key l) × (row_kept r ≡ true)
-row_read l r e = go (row_good l) refl e
-  where
-    go : (b : Bool) → row_good l ≡ b → pick b (Some (row_in l)) None ≡ Some r → (row_good l ≡ true) × (key_of r ≡ line_key l) × (row_kept r ≡ true)
-    go true g f = let h : row_in l ≡ r = cc in (g, ap key_of (sym h), ap row_kept (sym h) ∙ good_kept l g)
-    go false g f = cc
+  pub code_in : min (row_in l).code 4_294_967_295 ≡ (row_in l).code
+  code_in = code_held (row_in l) good_kept
+
+  pub class_in : min (row_in l).class 4_294_967_295 ≡ (row_in l).class
+  class_in = class_held (row_in l) good_kept
+
+-- one line more
+module _ (ls : List (List ℕ)) (i : ℕ) (h : i < length ls) where
+  pub good_more : list_all row_good (take (i + 1) ls) ≡ (list_all row_good (take i ls) && row_good (get_or ls i []))
+  good_more = list_all_more row_good ls i [] h
+
+  pub keys_more : map line_key (take (i + 1) ls) ≡ map line_key (take i ls) ++ (line_key (get_or ls i []) ∷ [])
+  keys_more = ap (map line_key) (take_more ls i [] h) ∙ map-append line_key (take i ls) (get_or ls i [] ∷ [])

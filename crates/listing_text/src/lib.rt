@@ -6,18 +6,20 @@ ghost use Rattle.rules.specs.Numbers.{refusal_number};
 ghost use Rattle.listing.specs.Text.{is_listing, refusal_of_text, step_at, step_in, next_at};
 ghost use Rattle.listing.specs.Keys.{lines_kept};
 
-use columns::bytes::holds;
+use columns::bytes::{column_at, holds};
 use listing::keys::{Key, all_differ};
 use listing::lines::ROW;
 use listing::texts::Step;
 use listing_row::read_line;
+use rules::limits::MOST_GROUPS;
 use rules::refusals::{Refusal, refuse};
 
-// "at most 64 rows" (Lines and columns)
-const MOST_ROWS: usize = 64;
+// "at most 64 rows" (Lines and columns): one for each group
+const MOST_ROWS: usize = MOST_GROUPS as usize;
 
 // Kept (no plainer): `gate_listing::rows_kept` is the same loop over groups; one function of both would take a closure, and its contract at both.
 // Whether each line is a row, and no code with its class is repeated.
+#[tactic(auto, using(crate::proofs::Turns::good_more, crate::proofs::Turns::keys_more, crate::proofs::Turns::code_in, crate::proofs::Turns::class_in, std::proofs::lemmas::List::take_more_set, std::proofs::lemmas::Grind::common_steps))]
 fn lines_kept(lines: &[[u8; ROW]]) -> bool
     requires { length lines.now ≤ 64 }
     ensures { result ≡ lines_kept lines.now }
@@ -49,14 +51,14 @@ pub fn refusal_of_text(text: &[u8]) -> Result<(), Refusal>
 }
 
 // What stands at a place of a text that was checked.
-#[tactic(auto, using(listing::proofs::Lined::cut), unfolding(listing::specs::Text::step_at))]
+#[tactic(auto, unfolding(listing::specs::Text::step_at))]
 fn step_at(text: &[u8], at: usize) -> Step
     ensures { result ≡ step_at text.now at }
 {
-    if !holds(text.len(), at, ROW) {
+    let Some(line) = column_at(text, at, ROW) else {
         return Step::End;
-    }
-    match read_line(&text[at..at + ROW]) {
+    };
+    match read_line(line) {
         Some(row) => Step::Next(row),
         None => Step::Broken,
     }

@@ -8,7 +8,7 @@ ghost use Rattle.quota.specs.Asks.{group_of_unit};
 ghost use Rattle.orders.specs.Host.{host_ok, named_ok};
 ghost use Rattle.orders.specs.Calls.{reads_in, place_reads, order_listed, fill_listed, cancel_listed};
 
-use crate::host::{host_ok, is_given, named_ok};
+use crate::host::{host_ok, is_given, named_ok, sound};
 use book_money::{accepted_of, money_at, places_of};
 use book_places::place_at;
 use quota::asks::{attachment_of, own_in_force_of};
@@ -54,10 +54,11 @@ pub fn listed_of_order(
     ensures refusal { refusal_number result ≡ order_listed shanghai register.now book.now places.now unit kind price quantity }
     ensures group { IfOk result (λ group. group ≡ group_of_unit register.now unit) }
 {
-    refuse(!host_ok(register, book, places), Refusal::Unsound)?;
+    sound(register, book, places)?;
     let attached_to = attachment_of(register, unit);
     let reads = reads_of_order(register, book, attached_to);
     order_refusal(unit, kind, price, quantity, reads)?;
+    // Kept (no plainer): an attached unit has a group, since the list refuses the others: 0 stands for a branch that is never taken, with no `unwrap` to prove.
     Ok(attached_to.unwrap_or(0))
 }
 

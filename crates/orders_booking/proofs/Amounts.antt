@@ -1,14 +1,13 @@
 -- The largest amount, amounts in their ranges, and the test of three totals against L. Assumes nothing.
 use Prim.Native.Nat.{ℕ, ◌*◌, ◌≤◌}
-use mathlib.Core.Path.{◌≡◌, refl, ap, ◌∙◌}
-use mathlib.Core.Bool.{Bool, true, false, not, ◌&&◌}
+use mathlib.Core.Path.{◌≡◌, refl}
+use mathlib.Core.Bool.{Bool, true, false, ◌&&◌}
 use native.Mathlib.Omega.{arith}
 use native.Mathlib.Nat.{le_trans, mul-le-mul_left, mul-le-mul_right}
 use borrow.Author.Tests.{leb-true, le-leb}
 use lib.Dec.{leb}
 use Rattle.rules.specs.Sums.{when}
 use Rattle.rules.specs.Limits.{top_price, top_quantity}
-use Rattle.rules.specs.Orders.{is_buy}
 use Rattle.rules.specs.declared.money.Mils.{Mils}
 use Rattle.orders.specs.Booking.{amount_in_range}
 
@@ -35,10 +34,3 @@ module _ (p : Mils) (q : ℕ) (h : p.0 ≤ top_price) (k : q ≤ top_quantity) w
   pub in_range_lem : amount_in_range p q ≡ p.0 * q
   unfolding amount_in_range when
   in_range_lem = rw (le-leb p.0 top_price h, le-leb q top_quantity k)
-
-  -- what is counted for a buy, and for another order
-  pub counted_buy : (b : Bool) (kind r : ℕ) → r ≡ when b (amount_in_range p q) → b ≡ is_buy kind → r ≡ when (is_buy kind) (p.0 * q)
-  counted_buy b kind r e f = e ∙ ap (λ (n : ℕ). when b n) in_range_lem ∙ ap (λ (t : Bool). when t (p.0 * q)) f
-
-  pub counted_other : (b : Bool) (kind r : ℕ) → r ≡ when (not b) (amount_in_range p q) → b ≡ is_buy kind → r ≡ when (not (is_buy kind)) (p.0 * q)
-  counted_other b kind r e f = e ∙ ap (λ (n : ℕ). when (not b) n) in_range_lem ∙ ap (λ (t : Bool). when (not t) (p.0 * q)) f

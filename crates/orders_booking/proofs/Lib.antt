@@ -1,4 +1,1 @@
 pub mod Amounts
-pub mod Taken
-pub mod Shape
-pub mod Named

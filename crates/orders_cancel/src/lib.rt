@@ -18,7 +18,9 @@ use rules::money::Mils;
 use rules::refusals::{Refusal, refuse};
 use rules_kinds::is_buy;
 
+// Kept (no plainer): price and quantity in range stand in three private contracts, by the list or the place read before: a type would be made at each.
 // The group's money after it: a buy's whole open quantity leaves the open buys at the order's price.
+#[tactic(auto, using(orders_booking::proofs::Amounts::in_range_lem), unfolding(orders::specs::Booking::booked_cancel))]
 fn booked_cancel(money: Money, place: Place) -> Result<Money, Refusal>
     requires { (place.price.0 ≤ top_price) × (place.«open» ≤ top_quantity) }
     ensures { result ≡ money_or_unsound (booked_cancel money place) }
@@ -33,6 +35,7 @@ fn booked_cancel(money: Money, place: Place) -> Result<Money, Refusal>
 
 // Kept (rule): register, book and places one by one, as in `orders`; the rest are the fields of the call's variant.
 // Call 10. Cancel: the whole open quantity, at the order's price.
+#[tactic(auto, using(crate::proofs::Needed::cancel_fits), unfolding(orders::specs::Calls::cancel_refusal, orders::specs::Calls::cancel_book, orders::specs::Calls::cancel_places))]
 pub fn cancel(
     register: &[u32],
     book: &mut [u64],

@@ -19,8 +19,9 @@ use rules::money::Mils;
 use rules::refusals::Refusal;
 use rules_kinds::is_buy;
 
+// Kept (no plainer): price and quantity in range stand in three private contracts, by the list or the place read before: a type would be made at each.
 // The group's money after it: a buy adds its amount to the open buys; a sell counts only when filled.
-#[tactic(auto, using(orders_booking::proofs::Amounts::counted_most))]
+#[tactic(auto, using(orders_booking::proofs::Amounts::counted_most, orders_booking::proofs::Amounts::in_range_lem), unfolding(orders::specs::Booking::booked_order))]
 fn booked_order(money: Money, kind: u64, price: Mils, quantity: u64) -> Result<Money, Refusal>
     requires { (InMoney money) × ((price.0 ≤ top_price) × (quantity ≤ top_quantity)) }
     ensures { result ≡ money_or_unsound (booked_order money kind price quantity) }
@@ -34,6 +35,7 @@ fn booked_order(money: Money, kind: u64, price: Mils, quantity: u64) -> Result<M
 
 // Kept (rule): register, book and places one by one, as in `orders`; the rest are the fields of the call's variant.
 // Call 8. Order: the next number, its own place, and a buy's amount to the open buys.
+#[tactic(auto, using(crate::proofs::Needed::order_fits), unfolding(orders::specs::Calls::order_refusal, orders::specs::Calls::order_answer, orders::specs::Calls::order_book, orders::specs::Calls::order_places))]
 pub fn order(
     register: &[u32],
     book: &mut [u64],

@@ -19,8 +19,9 @@ use rules::money::Mils;
 use rules::refusals::{Refusal, refuse};
 use rules_kinds::is_buy;
 
+// Kept (no plainer): price and quantity in range stand in three private contracts, by the list or the place read before: a type would be made at each.
 // The group's money after it: a buy's quantity leaves the open buys at the order's price and is bought at the fill's; another order's is sold at the fill's.
-#[tactic(auto, using(orders_booking::proofs::Amounts::counted_most))]
+#[tactic(auto, using(orders_booking::proofs::Amounts::counted_most, orders_booking::proofs::Amounts::in_range_lem), unfolding(orders::specs::Booking::booked_fill))]
 fn booked_fill(money: Money, place: Place, price: Mils, quantity: u64) -> Result<Money, Refusal>
     requires { (InMoney money) × ((place.price.0 ≤ top_price) × ((price.0 ≤ top_price) × (quantity ≤ top_quantity))) }
     ensures { result ≡ money_or_unsound (booked_fill money place price quantity) }
@@ -40,6 +41,7 @@ fn booked_fill(money: Money, place: Place, price: Mils, quantity: u64) -> Result
 
 // Kept (rule): register, book and places one by one, as in `orders`; the rest are the fields of the call's variant.
 // Call 9. Fill: booked at its own price, its quantity off the order's open quantity.
+#[tactic(auto, using(crate::proofs::Needed::fill_fits), unfolding(orders::specs::Calls::fill_refusal, orders::specs::Calls::fill_book, orders::specs::Calls::fill_places))]
 pub fn fill(
     register: &[u32],
     book: &mut [u64],

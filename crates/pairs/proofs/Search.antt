@@ -80,40 +80,40 @@ blocks_lack ws n key h j l e =
 
 -- a key that is not among the words before, found among the later ones
 module _ (ws : List ℕ) (from key : ℕ) (a : Lacks ws from key) where
-  pub position_later : (k : ℕ) → from ≤ length ws → position (λ word. eqb word key) (take (length ws - from) (drop from ws)) ≡ Some k → Some (from + k) ≡ position (λ word. eqb word key) ws
+  pub position_later : (k : ℕ) → from ≤ length ws → position (eqb key) (take (length ws - from) (drop from ws)) ≡ Some k → Some (from + k) ≡ position (eqb key) ws
   unfolding Lacks
   position_later k h r =
-      let e : position (λ word. eqb word key) (drop from ws) ≡ Some k = ap (position (λ word. eqb word key)) (sym (take_all (length ws - from) (drop from ws) (omega (arith, length-drop from ws)))) ∙ r in
-      let q = position-Some (λ word. eqb word key) (drop from ws) k 0 e in
+      let e : position (eqb key) (drop from ws) ≡ Some k = ap (position (eqb key)) (sym (take_all (length ws - from) (drop from ws) (omega (arith, length-drop from ws)))) ∙ r in
+      let q = position-Some (eqb key) (drop from ws) k 0 e in
       let l : from + k < length ws = omega (arith, q.0, length-drop from ws) in
-      sym (position_is (λ word. eqb word key) ws 0 (from + k) l (λ j m. before j m (q.2 (j - from))) (ap (λ z. eqb z key) (sym (get_or-drop from ws k 0)) ∙ q.1))
+      sym (position_is (eqb key) ws 0 (from + k) l (λ j m. before j m (q.2 (j - from))) (ap (eqb key) (sym (get_or-drop from ws k 0)) ∙ q.1))
     where
-      before : (j : ℕ) → j < from + k → (j - from < k → eqb (get_or (drop from ws) (j - from) 0) key ≡ false) → eqb (get_or ws j 0) key ≡ false
+      before : (j : ℕ) → j < from + k → (j - from < k → eqb key (get_or (drop from ws) (j - from) 0) ≡ false) → eqb key (get_or ws j 0) ≡ false
       before j m f = go (ltb j from) refl
         where
-          go : (b : Bool) → ltb j from ≡ b → eqb (get_or ws j 0) key ≡ false
-          go true t = ne_eqb _ _ (a j (ltb-true _ _ t))
+          go : (b : Bool) → ltb j from ≡ b → eqb key (get_or ws j 0) ≡ false
+          go true t = ne_eqb _ _ (λ e. a j (ltb-true _ _ t) (sym e))
           go false t =
               let l = ltb-false _ _ t in
               let u : from + (j - from) ≡ j = omega arith in
-              ap (λ z. eqb (get_or ws z 0) key) (sym u) ∙ ap (λ z. eqb z key) (sym (get_or-drop from ws (j - from) 0)) ∙ f (omega arith)
+              ap (λ z. eqb key (get_or ws z 0)) (sym u) ∙ ap (eqb key) (sym (get_or-drop from ws (j - from) 0)) ∙ f (omega arith)
 
-  pub position_nowhere : position (λ word. eqb word key) (take (length ws - from) (drop from ws)) ≡ None → None ≡ position (λ word. eqb word key) ws
+  pub position_nowhere : position (eqb key) (take (length ws - from) (drop from ws)) ≡ None → None ≡ position (eqb key) ws
   unfolding Lacks
   position_nowhere r =
-      let e = ap (position (λ word. eqb word key)) (sym (take_all (length ws - from) (drop from ws) (omega (arith, length-drop from ws)))) ∙ r in
-      sym (position_none (λ word. eqb word key) ws 0 (each e))
+      let e = ap (position (eqb key)) (sym (take_all (length ws - from) (drop from ws) (omega (arith, length-drop from ws)))) ∙ r in
+      sym (position_none (eqb key) ws 0 (each e))
     where
-      each : position (λ word. eqb word key) (drop from ws) ≡ None → (j : ℕ) → j < length ws → eqb (get_or ws j 0) key ≡ false
+      each : position (eqb key) (drop from ws) ≡ None → (j : ℕ) → j < length ws → eqb key (get_or ws j 0) ≡ false
       each e j m = go (ltb j from) refl
         where
-          go : (b : Bool) → ltb j from ≡ b → eqb (get_or ws j 0) key ≡ false
-          go true t = ne_eqb _ _ (a j (ltb-true _ _ t))
+          go : (b : Bool) → ltb j from ≡ b → eqb key (get_or ws j 0) ≡ false
+          go true t = ne_eqb _ _ (λ e. a j (ltb-true _ _ t) (sym e))
           go false t =
               let l = ltb-false _ _ t in
               let u : from + (j - from) ≡ j = omega arith in
               let o : j - from < length (drop from ws) = omega (arith, length-drop from ws) in
-              ap (λ z. eqb (get_or ws z 0) key) (sym u) ∙ ap (λ z. eqb z key) (sym (get_or-drop from ws (j - from) 0)) ∙ none_passes (λ word. eqb word key) (drop from ws) 0 e (j - from) o
+              ap (λ z. eqb key (get_or ws z 0)) (sym u) ∙ ap (eqb key) (sym (get_or-drop from ws (j - from) 0)) ∙ none_passes (eqb key) (drop from ws) 0 e (j - from) o
 
 -- a key that is no word of 32 bits
 pub above_words : {E : Type 0} (r : Result ℕ E) (key : ℕ) → OkIff r (key < 4294967296) key → None ≡ result_ok r → 4294967296 ≤ key
@@ -125,29 +125,25 @@ above_words (Err x) key h e = go (ltb key 4294967296) refl
     go false t = ltb-false _ _ t
 
 -- words below a key
-pub position_above : (ws : List ℕ) (top key : ℕ) → ((k : ℕ) → get_or ws k 0 < top) → top ≤ key → None ≡ position (λ word. eqb word key) ws
-position_above ws top key b h = sym (position_none (λ word. eqb word key) ws 0 (λ k _. let l = b k in ne_eqb _ _ (λ e. omega arith)))
-
-pub same_word : {E : Type 0} (r : Result ℕ E) (key word : ℕ) → OkIff r (key < 4294967296) key → Some word ≡ result_ok r → word ≡ key
-same_word (Ok x) key word h e = let f : word ≡ x = cc in f ∙ h.1
-same_word (Err x) key word h e = absurd (cc)
+pub position_above : (ws : List ℕ) (top key : ℕ) → ((k : ℕ) → get_or ws k 0 < top) → top ≤ key → None ≡ position (eqb key) ws
+position_above ws top key b h = sym (position_none (eqb key) ws 0 (λ k _. let l = b k in ne_eqb _ _ (λ e. omega arith)))
 
 -- a key among the first n words: its place, and none
-pub place_found : (ws : List ℕ) (n key k : ℕ) → position (λ word. eqb word key) (take n ws) ≡ Some k → (k < n) × (k ≡ place_of ws n key)
+pub place_found : (ws : List ℕ) (n key k : ℕ) → position (eqb key) (take n ws) ≡ Some k → (k < n) × (k ≡ place_of ws n key)
 unfolding Lacks
 place_found ws n key k e =
-    let q = position-Some (λ word. eqb word key) (take n ws) k 0 e in
+    let q = position-Some (eqb key) (take n ws) k 0 e in
     let l = length-take n ws in
     let u : k < n = omega arith in (
       u,
       sym (lacks_here ws n k key u (omega arith)
-          (λ j h. eqb-false _ _ (ap (λ z. eqb z key) (sym (get_or-take n ws j 0 (omega arith))) ∙ q.2 j h))
-          (sym (get_or-take n ws k 0 u) ∙ eqb-true _ _ q.1)),
+          (λ j h e. eqb-false _ _ (ap (eqb key) (sym (get_or-take n ws j 0 (omega arith))) ∙ q.2 j h) (sym e))
+          (sym (get_or-take n ws k 0 u) ∙ sym (eqb-true _ _ q.1))),
     )
 
-pub place_missing : (ws : List ℕ) (n key : ℕ) → position (λ word. eqb word key) (take n ws) ≡ None → n ≡ place_of ws n key
+pub place_missing : (ws : List ℕ) (n key : ℕ) → position (eqb key) (take n ws) ≡ None → n ≡ place_of ws n key
 unfolding Lacks
 place_missing ws n key e =
     let l = length-take n ws in
     sym (lacks_all ws n (min n (length ws)) key (omega arith) (omega arith)
-    (λ j h. eqb-false _ _ (ap (λ z. eqb z key) (sym (get_or-take n ws j 0 (omega arith))) ∙ none_passes (λ word. eqb word key) (take n ws) 0 e j (omega arith))))
+    (λ j h s. eqb-false _ _ (ap (eqb key) (sym (get_or-take n ws j 0 (omega arith))) ∙ none_passes (eqb key) (take n ws) 0 e j (omega arith)) (sym s)))

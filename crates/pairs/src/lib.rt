@@ -6,6 +6,8 @@ ghost use Rattle.std.specs.Prelude.{◌≡◌, ◌≤◌, eqb, length, position}
 ghost use Rattle.std.specs.List.{list_any};
 ghost use Rattle.pairs.specs.Pairs.{Lacks, removed_word};
 
+use words::first_of;
+
 // The first block that has the key.
 fn block_of(blocks: &[[u32; 16]], key: u32) -> Option<usize>
     ensures { result ≡ position (λ block. list_any (λ word. eqb word key) block) blocks.now }
@@ -21,22 +23,28 @@ fn skip(ws: &[u32], key: u32) -> usize
     16 * block_of(blocks, key).unwrap_or(blocks.len())
 }
 
-// The index of the first word that is the key.
-pub fn place_of(ws: &[u32], key: u64) -> Option<usize>
-    ensures { result ≡ position (λ word. eqb word key) ws.now }
+// The first word that is the key.
+fn searched(ws: &[u32], key: u32) -> Option<usize>
+    ensures { result ≡ position (eqb key) ws.now }
 {
-    let key = u32::try_from(key).ok()?;
     let from = skip(ws, key);
-    let later = ws[from..].iter().position(|word| *word == key)?;
+    let later = first_of(&ws[from..], key)?;
     Some(from + later)
 }
 
-// Word k of n taken out, the later ones moved down by one; nothing where there is no such word, or there are not so many.
-// Kept (no plainer): n beside the column, as `removed_word ws n k` and its laws count; the n words alone would ask for a law of the column with them put back.
-pub fn remove_word(ws: &mut [u32], n: usize, k: usize)
-    ensures { ws.new ≡ removed_word ws.old n k }
+// The index of the first word that is the key.
+pub fn place_of(ws: &[u32], key: u64) -> Option<usize>
+    ensures { result ≡ position (eqb key) ws.now }
 {
-    if k < n && n <= ws.len() {
-        ws.copy_within(k + 1..n, k);
+    searched(ws, u32::try_from(key).ok()?)
+}
+
+// Word k of a column's words in use taken out: the later ones moved down by one, the last left where it was too; nothing where there is no such word.
+#[tactic(auto, using(crate::specs::Laws::removed_none, crate::specs::Laws::removed_paste))]
+pub fn remove_word(ws: &mut [u32], k: usize)
+    ensures { ws.new ≡ removed_word ws.old (length ws.old) k }
+{
+    if k < ws.len() {
+        ws.copy_within(k + 1.., k);
     }
 }

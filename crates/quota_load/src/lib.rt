@@ -1,17 +1,17 @@
 // A load: a file of ratios, as it reads, into the register (2026-01). A refused load answers its number and leaves the register as it was, word for word.
 #![tactic(auto)]
 
-ghost use Rattle.std.specs.Prelude.{◌≡◌, Some};
+ghost use Rattle.std.specs.Prelude.{◌≡◌};
 ghost use Rattle.rules.specs.Refusals.{answered};
 ghost use Rattle.rules.specs.Numbers.{refusal_number, told};
-ghost use Rattle.rules.specs.Loads.{loaded, read_as};
+ghost use Rattle.rules.specs.Loads.{read_as};
 ghost use Rattle.quota.specs.Calls.{load_refusal, load_after};
 
 use quota::soundness::sound;
 use register_groups::group_count;
 use register_ratios::put_ratios;
 use rules::loads::RatioFile;
-use rules::quotas::{Ratio, Ratios};
+use rules::quotas::Ratios;
 use rules::refusals::Refusal;
 use rules_declaring::loading::load_refusal;
 
@@ -24,17 +24,6 @@ pub fn refusal_of_load(register: &[u32], file: Option<RatioFile>) -> Result<(), 
     load_refusal(file, 0 < group_count(register))
 }
 
-// The table that a file says.
-fn table_of(file: RatioFile) -> Ratios
-    ensures { result ≡ loaded (read_as (Some file)) }
-{
-    Ratios {
-        proprietary: Ratio::from(file.first),
-        management: Ratio::from(file.second),
-        institution: Ratio::from(file.third),
-    }
-}
-
 // "refusal 8 and the history's quotas go by the table loaded last" (2026-01)
 #[tactic(auto, unfolding(quota::specs::Calls::load_refusal, quota::specs::Calls::load_after, rules::specs::Loads::load_rules))]
 pub fn load(register: &mut [u32], file: Option<RatioFile>) -> Result<u64, Refusal>
@@ -42,7 +31,7 @@ pub fn load(register: &mut [u32], file: Option<RatioFile>) -> Result<u64, Refusa
     ensures register { register.new ≡ load_after register.old (read_as file) }
 {
     refusal_of_load(register, file)?;
-    // Kept (no plainer): `refusal_of_load` has refused a file that is none, after 1: to open it once more would add a branch that is never taken.
-    put_ratios(register, table_of(file.unwrap()));
+    // Kept (no plainer): `refusal_of_load` refuses a file that is none; to return the file it would unwrap it after `load_refusal`: this line in another place.
+    put_ratios(register, Ratios::from(file.unwrap()));
     Ok(0)
 }

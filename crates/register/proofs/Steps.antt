@@ -8,18 +8,18 @@ use borrow.Author.Tests.{leb-true, leb-false, eq-eqb, ne_eqb, le-leb, lt-ltb, le
 use borrow.Rule.Slice.PartMut.{put_mid}
 use lib.Dec.{eqb, leb}
 use mathlib.Core.Bool.{Bool, true, false}
-use Rattle.std.proofs.Common.{length-take}
+use Rattle.std.proofs.Common.{length-take, length-drop}
 use lib.ListN.{length, get_or, set, take, drop}
 use native.Mathlib.Numerals.{add-one}
 use lib.Seq.{take-take, take_all, get_or-set_same, get_or-set_other, ext_get_or, drop-drop}
 use Rattle.rules.specs.Keyed.{find}
-use Rattle.words.specs.Words.{run, splice, run_at, splice-after}
+use Rattle.words.specs.Words.{run, splice, run_at, length-splice, splice-after}
 use Rattle.pairs.specs.Pairs.{removed_word}
 use Rattle.pairs.proofs.Search.{place_found, place_missing}
-use Rattle.pairs.specs.Laws.{place-fits, place_value, place_none, length_removed}
+use Rattle.pairs.specs.Laws.{place-fits, place_value, place_none, length_removed, removed_front}
 use Rattle.register.specs.Layout.{unit_count, unit_column, unit_group_column, units_of, unit_place, closed_units, remove_unit, words_of, place, held, record_at, put_words, put_record, put_group, first_unit, first_unit_group, record_words, register_length}
 use Rattle.register.specs.Records.{here, length_record, record_word}
-use Rattle.register.specs.Views.{units_is, length-column, length_group_column, as_long}
+use Rattle.register.specs.Views.{units_is, length-column, as_long}
 use Rattle.words.specs.Each.{same}
 use Rattle.register.specs.declared.groups.Group.{Group}
 
@@ -79,7 +79,7 @@ first_units ws n m e = go (leb m 256) refl
 
 module _ (ws : List ℕ) (unit : ℕ) (l : length ws ≡ register_length) where
   -- the group of a unit that is found, and of one that is not
-  pub found_step : (k : ℕ) → position (λ word. eqb word unit) (take (unit_count ws) (unit_column ws)) ≡ Some k
+  pub found_step : (k : ℕ) → position (eqb unit) (take (unit_count ws) (unit_column ws)) ≡ Some k
       → (k < 256) × (find unit (units_of ws) ≡ Some (get_or ws (first_unit_group + k) 0))
   found_step k e =
       let q = place_found (unit_column ws) (unit_count ws) unit k e in
@@ -89,7 +89,7 @@ module _ (ws : List ℕ) (unit : ℕ) (l : length ws ≡ register_length) where
       let f : get_or (unit_group_column ws) (unit_place ws unit) 0 ≡ get_or ws (first_unit_group + k) 0 = ap (λ z. get_or (unit_group_column ws) z 0) (sym q.1) ∙ run_at ws first_unit_group 256 k h in
       (h, ap (find unit) (units_is ws l) ∙ place_value (unit_column ws) (unit_group_column ws) (unit_count ws) unit (as_long ws l) (omega arith) ∙ ap Some f)
 
-  pub missing_step : position (λ word. eqb word unit) (take (unit_count ws) (unit_column ws)) ≡ None → find unit (units_of ws) ≡ None
+  pub missing_step : position (eqb unit) (take (unit_count ws) (unit_column ws)) ≡ None → find unit (units_of ws) ≡ None
   missing_step e =
       let q = place_missing (unit_column ws) (unit_count ws) unit e in
       ap (find unit) (units_is ws l) ∙ place_none (unit_column ws) (unit_group_column ws) (unit_count ws) unit (as_long ws l) (omega arith)
@@ -100,34 +100,53 @@ unfolding splice
 mid_splice ws ys k n e =
     ap (λ (z : List ℕ). take k ws ++ (ys ++ z)) (drop-drop n k ws ∙ ap (λ m. drop (k + m) ws) (sym e)) ∙ sym (append_assoc (take k ws) ys (drop (k + length ys) ws))
 
+-- n words from word a on, as a slice of them is
+abbrev part : ℕ → ℕ → List ℕ → List ℕ
+part a n ws = take (a + n - a) (drop a ws)
+
+-- the n words in use of a column of j, from word a on, put back with word k taken out: the whole column with it taken out
+front_splice : (ws ys : List ℕ) (a j n k : ℕ) → n ≤ j → a + j ≤ length ws → ys ≡ removed_word (part a n ws) (length (part a n ws)) k
+    → put_mid a (a + n - a) ws ys ≡ splice ws a (removed_word (run ws a j) n k)
+unfolding run
+front_splice ws ys a j n k h l f =
+    let w = drop a ws in
+    let d = length-drop a ws in
+    let e : a + n - a ≡ n = omega arith in
+    let q : length (part a n ws) ≡ n = omega (arith, length-take (a + n - a) w) in
+    let r : length (removed_word (take j w) n k) ≡ j = length_removed (take j w) n k ∙ omega (arith, length-take j w) in
+    ap (λ (z : List ℕ). take a ws ++ z)
+    (ap (λ (z : ℕ). ys ++ drop z w) e
+    ∙ ap (λ (z : List ℕ). z ++ drop n w) (f ∙ ap (λ (z : ℕ). removed_word (part a n ws) z k) q ∙ ap (λ (z : ℕ). removed_word (take z w) n k) e)
+    ∙ removed_front w n n k (omega arith) (omega arith)
+    ∙ sym (removed_front w j n k h (omega arith)))
+    ∙ mid_splice ws (removed_word (take j w) n k) a j r
+
 module _ (ws : List ℕ) (unit : ℕ) (l : length ws ≡ register_length) (h : unit_count ws ≤ 256) where
-  searched : take (first_unit + unit_count ws - first_unit) (drop first_unit ws) ≡ take (unit_count ws) (unit_column ws)
+  searched : part first_unit (unit_count ws) ws ≡ take (unit_count ws) (unit_column ws)
   searched = first_units ws _ (unit_count ws) (omega arith)
 
-  pub unit_not_there : position (λ word. eqb word unit) (take (first_unit + unit_count ws - first_unit) (drop first_unit ws)) ≡ None → ws ≡ remove_unit ws unit
+  pub unit_not_there : position (eqb unit) (part first_unit (unit_count ws) ws) ≡ None → ws ≡ remove_unit ws unit
   unfolding remove_unit
   unit_not_there e =
-      let q = place_missing (unit_column ws) (unit_count ws) unit (ap (position (λ word. eqb word unit)) (sym searched) ∙ e) in
+      let q = place_missing (unit_column ws) (unit_count ws) unit (ap (position (eqb unit)) (sym searched) ∙ e) in
       rw (eq-eqb (length ws) register_length l, le-leb (unit_count ws) 256 h, le-ltb (unit_place ws unit) (unit_count ws) (omega arith))
 
-  module _ (k : ℕ) (p : position (λ word. eqb word unit) (take (first_unit + unit_count ws - first_unit) (drop first_unit ws)) ≡ Some k) (us ys zs : List ℕ) (e : ys ≡ removed_word (take 256 (drop first_unit ws)) (unit_count ws) k) (f : us ≡ put_mid first_unit 256 ws ys) (g : zs ≡ removed_word (take 256 (drop first_unit_group us)) (unit_count ws) k) where
+  module _ (k : ℕ) (p : position (eqb unit) (part first_unit (unit_count ws) ws) ≡ Some k) (us ys zs : List ℕ) (e : ys ≡ removed_word (part first_unit (unit_count ws) ws) (length (part first_unit (unit_count ws) ws)) k) (f : us ≡ put_mid first_unit (first_unit + unit_count ws - first_unit) ws ys) (g : zs ≡ removed_word (part first_unit_group (unit_count ws) us) (length (part first_unit_group (unit_count ws) us)) k) where
     first_half : us ≡ splice ws first_unit (removed_word (unit_column ws) (unit_count ws) k)
-    unfolding run
-    first_half =
-        f ∙ mid_splice ws ys first_unit 256 (ap (λ (z : List ℕ). length z) e ∙ length_removed (unit_column ws) (unit_count ws) k ∙ length-column ws l) ∙ ap (splice ws first_unit) e
+    first_half = f ∙ front_splice ws ys first_unit 256 (unit_count ws) k h (omega arith) e
 
-    second_half : zs ≡ removed_word (unit_group_column ws) (unit_count ws) k
-    unfolding run
+    second_half : put_mid first_unit_group (first_unit_group + unit_count ws - first_unit_group) us zs ≡ closed_units ws k
     second_half =
-        let a = length_removed (unit_column ws) (unit_count ws) k ∙ length-column ws l in
-        g ∙ ap (λ (z : List ℕ). removed_word (run z first_unit_group 256) (unit_count ws) k) first_half
-        ∙ ap (λ (z : List ℕ). removed_word z (unit_count ws) k) (splice-after ws first_unit (removed_word (unit_column ws) (unit_count ws) k) (omega arith) first_unit_group 256 (omega arith))
+        let n = length_removed (unit_column ws) (unit_count ws) k ∙ length-column ws l in
+        let a : length us ≡ length ws = ap (λ (z : List ℕ). length z) first_half ∙ length-splice ws first_unit (removed_word (unit_column ws) (unit_count ws) k) (omega arith) in
+        front_splice us zs first_unit_group 256 (unit_count ws) k h (omega arith) g
+        ∙ ap (λ (z : List ℕ). splice z first_unit_group (removed_word (run z first_unit_group 256) (unit_count ws) k)) first_half
+        ∙ ap (λ (z : List ℕ). splice (splice ws first_unit (removed_word (unit_column ws) (unit_count ws) k)) first_unit_group (removed_word z (unit_count ws) k))
+        (splice-after ws first_unit (removed_word (unit_column ws) (unit_count ws) k) (omega arith) first_unit_group 256 (omega arith))
 
-    pub remove_unit_step : set (put_mid first_unit_group 256 us zs) 1 (unit_count ws - 1) ≡ remove_unit ws unit
+    pub remove_unit_step : set (put_mid first_unit_group (first_unit_group + unit_count ws - first_unit_group) us zs) 1 (unit_count ws - 1) ≡ remove_unit ws unit
     unfolding remove_unit
     remove_unit_step =
-        let q = place_found (unit_column ws) (unit_count ws) unit k (ap (position (λ word. eqb word unit)) (sym searched) ∙ p) in
-        let b : length zs ≡ 256 = ap (λ (z : List ℕ). length z) second_half ∙ length_removed (unit_group_column ws) (unit_count ws) k ∙ length_group_column ws l in
-        let c : put_mid first_unit_group 256 us zs ≡ closed_units ws k = mid_splice us zs first_unit_group 256 b ∙ ap (λ (z : List ℕ). splice z first_unit_group zs) first_half ∙ ap (splice (splice ws first_unit (removed_word (unit_column ws) (unit_count ws) k)) first_unit_group) second_half in
+        let q = place_found (unit_column ws) (unit_count ws) unit k (ap (position (eqb unit)) (sym searched) ∙ p) in
         rw (eq-eqb (length ws) register_length l, le-leb (unit_count ws) 256 h, lt-ltb (unit_place ws unit) (unit_count ws) (omega arith))
-        (ap (λ (z : List ℕ). set z 1 (unit_count ws - 1)) (c ∙ ap (closed_units ws) q.1))
+        (ap (λ (z : List ℕ). set z 1 (unit_count ws - 1)) (second_half ∙ ap (closed_units ws) q.1))

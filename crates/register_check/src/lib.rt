@@ -33,7 +33,7 @@ fn scalars_ok(register: &[u32; REGISTER], i: usize) -> bool
         & ok
 }
 
-// Kept (no plainer): n, groups or units or declarers, beside the register: their columns lie apart in one memory, and a slice of it is none of them.
+// Kept (no plainer): n beside the register, in three loops: a slice holds one column, and each loop reads two or more at one place: two slices say more than n.
 fn all_scalars_ok(register: &[u32; REGISTER], n: usize) -> bool
     requires { n ≤ 64 }
     ensures { result ≡ all_below n (scalars_ok register.now) }
@@ -70,12 +70,13 @@ fn units_ok(register: &[u32; REGISTER], n: usize) -> bool
 }
 
 // The words of the ratios: "both 1 to 100" (2026-01).
+#[tactic(auto, using(words::specs::Each::below_none, words::specs::Each::below_turn, crate::proofs::Ratios::ratio_read))]
 fn ratios_ok(register: &[u32; REGISTER]) -> bool
     ensures { result ≡ all_below 6 (ratio_ok register.now) }
 {
     let mut ok = true;
-    for j in 0..RATIO_WORDS {
-        ok &= (1 <= register[RATIOS + j]) & (register[RATIOS + j] <= 100);
+    for word in &register[RATIOS..RATIOS + RATIO_WORDS] {
+        ok &= (1 <= *word) & (*word <= 100);
     }
     ok
 }

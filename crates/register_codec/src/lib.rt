@@ -11,11 +11,7 @@ use rules::quotas::Emergency;
 pub fn limit_of(word: u64) -> Option<Millions>
     ensures { result ≡ limit_of word }
 {
-    if word <= 9_999_999 {
-        Some(Millions(word))
-    } else {
-        None
-    }
+    (word <= 9_999_999).then_some(Millions(word))
 }
 
 pub fn limit_word(limit: Option<Millions>) -> u64

@@ -2,6 +2,7 @@
 #![tactic(auto)]
 
 ghost use Rattle.std.specs.Prelude.{◌≡◌, [], ◌<◌};
+ghost use Rattle.std.specs.List.{list_any, range_with_len};
 ghost use Rattle.register.specs.Layout.{place as place_of, record_at, put_words, figures_of, group_of, words_of, group_at, put_group, group_count, add_group, is_group, is_taken, record_words, register_length};
 
 use figures::Figures;
@@ -117,7 +118,7 @@ fn place(i: usize, k: usize) -> usize
 }
 
 // The record of group i.
-#[tactic(auto, using(register::proofs::Steps::gathered_none, register::proofs::Steps::gathered_turn, register::proofs::Steps::gathered_all))]
+#[tactic(auto, using(register::proofs::Steps::gathered_none, register::proofs::Steps::gathered_turn, register::proofs::Steps::gathered_all, std::proofs::lemmas::Grind::common_steps))]
 fn gathered(register: &[u32; REGISTER], i: usize) -> [u64; RECORD]
     requires { i < 64 }
     ensures { result ≡ record_at register.now i }
@@ -202,10 +203,18 @@ fn is_group(register: &[u32], code: u64, class: u64, i: usize) -> bool
     (group.code == code) & (group.class == class)
 }
 
+// One of the first n groups has the code and the class.
+fn any_is(register: &[u32], code: u64, class: u64, n: usize) -> bool
+    ensures { result ≡ list_any (is_group register.now code class) (range_with_len 0 n) }
+{
+    (0..n).any(|i| is_group(register, code, class, i))
+}
+
 // A group of that code and class is enrolled; of more than 64 the first 64 are looked at.
+#[tactic(auto, using(crate::proofs::Taken::taken_among))]
 pub fn is_taken(register: &[u32], code: u64, class: u64) -> bool
     ensures { result ≡ is_taken register.now code class }
 {
     let n = group_count(register).min(64) as usize;
-    (0..n).any(|i| is_group(register, code, class, i))
+    any_is(register, code, class, n)
 }

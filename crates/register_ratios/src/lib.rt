@@ -30,6 +30,7 @@ pub fn ratios_of(register: &[u32]) -> Ratios
     }
 }
 
+// Kept (no plainer): `words::store` of one word would make a list of it, test two lengths and copy: here one test and one write.
 fn put_word(register: &mut [u32], k: usize, x: u64)
     ensures { register.new ≡ set register.old k (held x) }
 {

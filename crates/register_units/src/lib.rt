@@ -1,12 +1,12 @@
 // The attached units, each with its group: a keyed list in two columns.
 #![tactic(auto)]
 
-ghost use Rattle.std.specs.Prelude.{◌≡◌, take};
+ghost use Rattle.std.specs.Prelude.{◌≡◌, eqb, position, take};
 ghost use Rattle.rules.specs.Keyed.{find, is_there};
 ghost use Rattle.register.specs.Layout.{unit_count, unit_column, units_of, add_unit, remove_unit};
 
 use pairs::{place_of, remove_word};
-use register::layout::{FIRST_SCALAR, FIRST_UNIT, FIRST_UNIT_GROUP, REGISTER, UNITS};
+use register::layout::{FIRST_UNIT, FIRST_UNIT_GROUP, REGISTER, UNITS};
 use words::{low, whole, word_or};
 
 // Kept (no plainer): one line, as `register_groups::group_count`: another word of the header.
@@ -18,6 +18,7 @@ pub fn unit_count(register: &[u32]) -> u64
 }
 
 // The attached units, of those that there is room for.
+#[tactic(auto, using(crate::proofs::Attached::units_first))]
 fn units(register: &[u32; REGISTER]) -> &[u32]
     ensures { result.now ≡ take (unit_count register.now) (unit_column register.now) }
 {
@@ -26,6 +27,7 @@ fn units(register: &[u32; REGISTER]) -> &[u32]
 }
 
 // The group of an attached unit.
+#[tactic(auto, using(crate::proofs::Attached::none_there, crate::proofs::Attached::found_within, crate::proofs::Attached::found_group, crate::proofs::Attached::missing))]
 pub fn find_unit(register: &[u32], unit: u64) -> Option<u64>
     ensures { result ≡ find unit (units_of register.now) }
 {
@@ -60,7 +62,7 @@ pub fn add_unit(register: &mut [u32], unit: u64, group: u64)
 }
 
 // The unit taken out, the later ones moved down; nothing where it is not attached.
-#[tactic(auto, unfolding(register::specs::Layout::remove_unit))]
+#[tactic(auto, using(crate::proofs::Attached::not_there), unfolding(register::specs::Layout::remove_unit))]
 pub fn remove_unit(register: &mut [u32], unit: u64)
     ensures { register.new ≡ remove_unit register.old unit }
 {
@@ -75,7 +77,7 @@ pub fn remove_unit(register: &mut [u32], unit: u64)
     let Some(k) = place_of(&register[FIRST_UNIT..FIRST_UNIT + m], unit) else {
         return;
     };
-    remove_word(&mut register[FIRST_UNIT..FIRST_UNIT_GROUP], m, k);
-    remove_word(&mut register[FIRST_UNIT_GROUP..FIRST_SCALAR], m, k);
+    remove_word(&mut register[FIRST_UNIT..FIRST_UNIT + m], k);
+    remove_word(&mut register[FIRST_UNIT_GROUP..FIRST_UNIT_GROUP + m], k);
     register[UNITS] = n - 1;
 }

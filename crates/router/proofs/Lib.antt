@@ -1,2 +1,1 @@
-pub mod Handing
 pub mod Outcome

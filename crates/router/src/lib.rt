@@ -39,7 +39,7 @@ use rules::codes::call_of;
 use rules::refusals::{Refusal, refuse};
 
 // Bytes a group in a listing.
-const ROW_BYTES: u64 = 108;
+const ROW_BYTES: u64 = ROW as u64;
 
 // Words of a row: code, class, maximum, own quota, 1 where net is below 0, net's size, open buys, bought, sold.
 const ROW_WORDS: usize = 9;
@@ -100,7 +100,7 @@ pub fn ekhurtza_load(register: &mut [u32], book: &[u64], places: &[u64], text: &
 }
 
 // The listing into a lent buffer, and how many bytes it has.
-#[tactic(auto, using(rules::specs::Numbers::refused_is), unfolding(crate::specs::Handed::listed_bytes))]
+#[tactic(auto, using(rules::specs::Numbers::refused_is), unfolding(crate::specs::Handed::listed_bytes, gate_listing::specs::Listed::list_refusal))]
 fn listed(register: &[u32], book: &[u64], places: &[u64], buffer: &mut [u8]) -> Result<u64, Refusal>
     ensures refusal { refusal_number result ≡ list_refusal (memory register.now book.now places.now) (length buffer.old) }
     ensures bytes { (told result).number ≡ listed_bytes (memory register.now book.now places.now) (length buffer.old) }
@@ -194,7 +194,7 @@ fn refusal_of_found(text: &[u8], k: u64, lent: usize) -> Result<(), Refusal>
 }
 
 // Row k of a listing, counted from 0, as plain numbers. The whole text is checked first.
-#[tactic(auto, using(rules::specs::Numbers::refused_is), unfolding(crate::specs::Texts::found_row, crate::specs::Handed::row_words))]
+#[tactic(auto, using(rules::specs::Numbers::refused_is), unfolding(crate::specs::Texts::found_row, crate::specs::Texts::found_refusal, crate::specs::Handed::row_words))]
 fn found_row(text: &[u8], k: u64, out: &mut [u64]) -> Result<(), Refusal>
     ensures refusal { refusal_number result ≡ found_refusal text.now k (length out.old) }
     ensures row { out.new ≡ found_row text.now k out.old }
@@ -219,6 +219,7 @@ fn refusal_of_line(call: Call, lent: usize) -> Result<(), Refusal>
     refuse(lent < CALL_BYTES, Refusal::ShortBuffer)
 }
 
+// Kept (rule): no `?`: `put_call` is total and writes nothing that does not fit, and C is told why by the number beside it.
 // A call as its line, with the line feed, by its code and four fields; those that the call does not use are written 0.
 #[tactic(auto, using(crate::proofs::Outcome::line_told), unfolding(crate::specs::Texts::line_refusal, crate::specs::Texts::line_put))]
 pub fn ekhurtza_call_line(code: u64, a: u64, b: u64, c: u64, d: u64, line: &mut [u8]) -> u64

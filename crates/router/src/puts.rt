@@ -53,7 +53,9 @@ pub(crate) fn put_room(out: &mut [u64], left: Net)
     store(out, 0, &[sign_word(below), size.0]);
 }
 
+// Kept (no plainer): that the text is a listing: as in `listing_rooms`.
 // The words of row k of a listing into lent words; nothing where they do not fit.
+#[tactic(auto, using(listing::proofs::Lined::row_handed, listing::specs::Rooms::rows_few))]
 pub(crate) fn put_found(text: &[u8], k: u64, out: &mut [u64])
     requires { (is_listing text.now ≡ true) × (k < length (rows_in text.now)) }
     ensures { out.new ≡ stored out.old 0 (row_words (get_or (rows_in text.now) k no_row)) }

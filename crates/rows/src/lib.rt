@@ -9,7 +9,7 @@ ghost use Rattle.rows.specs.Row.{signed_net, class_kept, limits_kept, row_obeys,
 ghost use Rattle.rows.specs.Room.{difference as differenceOf};
 
 use book_money::money_at;
-use orders::host::host_ok;
+use orders::host::sound;
 use orders_booking::money_fits;
 use quota::asks::{is_enrolled, own_in_force_of};
 use register_groups::group_at;
@@ -44,16 +44,9 @@ pub struct Row {
 pub fn difference(a: u64, b: u64) -> Net
     ensures { result ≡ differenceOf a b }
 {
-    if a < b {
-        Net {
-            below: true,
-            size: Mils(b - a),
-        }
-    } else {
-        Net {
-            below: false,
-            size: Mils(a - b),
-        }
+    Net {
+        below: a < b,
+        size: Mils(a.abs_diff(b)),
     }
 }
 
@@ -70,7 +63,7 @@ fn signed_net(money: Money) -> Net
 fn class_kept(class: u64) -> bool
     ensures { result ≡ class_kept class }
 {
-    1 <= class && class <= TOP_CLASS && class != BROKERAGE
+    (1..=TOP_CLASS).contains(&class) && class != BROKERAGE
 }
 
 // A maximum, 0 included (2026-01), and the own quota at most that, or neither.
@@ -79,7 +72,7 @@ fn limits_kept(maximum: Option<Millions>, own: Option<Millions>) -> bool
 {
     match (maximum, own) {
         (None, None) => true,
-        (Some(m), Some(q)) => m.0 <= TOP_QUOTA && q.0 <= m.0,
+        (Some(m), Some(q)) => m.0 <= TOP_QUOTA && q <= m,
         _ => false,
     }
 }
@@ -150,7 +143,7 @@ fn shown_row(
 fn refusal_of_row(register: &[u32], book: &[u64], places: &[u64], group: u64) -> Result<(), Refusal>
     ensures { refusal_number result ≡ row_refusal register.now book.now places.now group }
 {
-    refuse(!host_ok(register, book, places), Refusal::Unsound)?;
+    sound(register, book, places)?;
     refuse(group > TOP_GROUP, Refusal::OutOfRange)?;
     refuse(!is_enrolled(register, group), Refusal::NotThere)
 }

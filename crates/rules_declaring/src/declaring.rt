@@ -1,6 +1,7 @@
 // The refusals of calls 1 to 7, groups, units and declarations, each over what the call reads.
 // Kept (no plainer): code and class, declarer, group and quota are fields of a variant of `Call`: a struct of them would be a second name for it.
-ghost use Rattle.std.specs.Prelude.{◌≡◌};
+ghost use Rattle.std.specs.Prelude.{◌≡◌, ◌&&◌};
+ghost use Rattle.rules.specs.Limits.{is_code, is_group};
 ghost use Rattle.rules.specs.Numbers.{refusal_number};
 ghost use Rattle.rules.specs.Refusals.{refusal};
 ghost use Rattle.rules.specs.Lists.{is_foreign, held_by_another, nothing_to_withdraw, not_above, is_above, enrol_rules, attach_rules, detach_rules, regular_rules, raise_rules, withdraw_rules, own_quota_rules};
@@ -17,11 +18,18 @@ use rules_quotas::{flag_due, quota_by};
 pub fn enrol_refusal(code: u64, class: u64, reads: EnrolReads) -> Result<(), Refusal>
     ensures { refusal_number result ≡ refusal (enrol_rules code class reads) }
 {
-    let in_range = code <= TOP_CODE && 1 <= class && class <= TOP_CLASS;
+    let in_range = code <= TOP_CODE && (1..=TOP_CLASS).contains(&class);
     refuse(!in_range, Refusal::OutOfRange)?;
     refuse(class == BROKERAGE, Refusal::NotControlled)?;
     refuse(reads.taken, Refusal::AlreadyThere)?;
     refuse(reads.full, Refusal::NoRoom)
+}
+
+// A unit or a declarer, and a group, each in the range of codes.
+fn is_named(code: u64, group: u64) -> bool
+    ensures { result ≡ (is_code code && is_group group) }
+{
+    code <= TOP_CODE && group <= TOP_GROUP
 }
 
 // Call 2, attach unit.
@@ -29,7 +37,7 @@ pub fn enrol_refusal(code: u64, class: u64, reads: EnrolReads) -> Result<(), Ref
 pub fn attach_refusal(unit: u64, group: u64, reads: AttachReads) -> Result<(), Refusal>
     ensures { refusal_number result ≡ refusal (attach_rules unit group reads) }
 {
-    let in_range = unit <= TOP_CODE && group <= TOP_GROUP;
+    let in_range = is_named(unit, group);
     refuse(!in_range, Refusal::OutOfRange)?;
     refuse(reads.attached, Refusal::AlreadyThere)?;
     refuse(reads.full, Refusal::NoRoom)?;
@@ -65,8 +73,7 @@ pub fn regular_refusal(
 ) -> Result<(), Refusal>
     ensures { refusal_number result ≡ refusal (regular_rules ratios declarer group base quota reads figures) }
 {
-    let named = declarer <= TOP_CODE && group <= TOP_GROUP;
-    let in_range = named && base.0 <= TOP_QUOTA && quota.0 <= TOP_QUOTA;
+    let in_range = is_named(declarer, group) && base.0 <= TOP_QUOTA && quota.0 <= TOP_QUOTA;
     let due = quota_by(ratios, reads.class, base);
     refuse(!in_range, Refusal::OutOfRange)?;
     refuse(!reads.enrolled, Refusal::NotThere)?;
@@ -106,8 +113,7 @@ pub fn raise_refusal(
     ensures { refusal_number result ≡ refusal (raise_rules declarer group quota flag reads) }
 {
     let agreed = reads.quota;
-    let named = declarer <= TOP_CODE && group <= TOP_GROUP;
-    let in_range = named && 1 <= quota.0 && quota.0 <= TOP_QUOTA && flag <= 1;
+    let in_range = is_named(declarer, group) && 1 <= quota.0 && quota.0 <= TOP_QUOTA && flag <= 1;
     refuse(!in_range, Refusal::OutOfRange)?;
     refuse(!reads.enrolled, Refusal::NotThere)?;
     refuse(is_foreign(reads, declarer), Refusal::NotTheFirm)?;
@@ -131,7 +137,7 @@ pub fn withdraw_refusal(declarer: u64, group: u64, reads: GroupReads) -> Result<
     ensures { refusal_number result ≡ refusal (withdraw_rules declarer group reads) }
 {
     let emergency = reads.quota.emergency;
-    let in_range = declarer <= TOP_CODE && group <= TOP_GROUP;
+    let in_range = is_named(declarer, group);
     refuse(!in_range, Refusal::OutOfRange)?;
     refuse(!reads.enrolled, Refusal::NotThere)?;
     refuse(is_foreign(reads, declarer), Refusal::NotTheFirm)?;

@@ -16,6 +16,7 @@ fn in_price_range(price: Mils) -> bool
 }
 
 // Buys: kind 3 is repo lending, 1 and 2 may not be filled above the order's price.
+#[tactic(auto, unfolding(rules::specs::Orders::is_buy, rules::specs::Orders::price_rule, rules::specs::Orders::worse_fill))]
 fn decided_of_buy(kind: u64, price: Mils, fill: Mils) -> Decided
     requires { (1 ≤ kind) × (kind ≤ 3) }
     ensures { result ≡ decided_by kind price fill }
@@ -30,12 +31,13 @@ fn decided_of_buy(kind: u64, price: Mils, fill: Mils) -> Decided
     Decided {
         buy: true,
         priced: in_price_range(price),
-        worse: price.0 < fill.0,
+        worse: price < fill,
     }
 }
 
 // Kept (rule): "match on kind 1..6 ..": a kind is a number here, in calls, places and reads: a field or a word of lent memory may have any value.
 // The one match on the kind. What it says of a number that is no kind decides nothing: 2 refuses the order.
+#[tactic(auto, unfolding(rules::specs::Orders::is_buy, rules::specs::Orders::price_rule, rules::specs::Orders::worse_fill))]
 pub fn decide(kind: u64, price: Mils, fill: Mils) -> Decided
     ensures { result ≡ decided_by kind price fill }
 {
@@ -44,7 +46,7 @@ pub fn decide(kind: u64, price: Mils, fill: Mils) -> Decided
         4 => Decided {
             buy: false,
             priced: in_price_range(price),
-            worse: fill.0 < price.0,
+            worse: fill < price,
         },
         5 => Decided {
             buy: false,
@@ -87,6 +89,7 @@ pub fn worse_fill(kind: u64, price: Mils, fill: Mils) -> bool
 
 // Shanghai's rule of acceptance: net, before the order, is below the own quota, whatever the order's amount. Open + bought < own + sold, over 128 bits, where
 // no sum wraps.
+#[tactic(auto, using(crate::proofs::Deciding::shanghai_sums))]
 pub fn accepts(own: Mils, money: Money) -> bool
     ensures { (amount : Mils) → result ≡ shanghai own (net_of money) amount }
 {
@@ -95,11 +98,9 @@ pub fn accepts(own: Mils, money: Money) -> bool
 }
 
 // Shanghai's rule stops a buy under the own quota in force; where none is in force it does not.
+#[tactic(auto, unfolding(rules::specs::Orders::stops))]
 pub fn stops_buy(own: Option<Millions>, money: Money) -> bool
     ensures { (amount : Mils) → result ≡ stops shanghai own (net_of money) amount }
 {
-    match own {
-        None => false,
-        Some(quota) => !accepts(mils_of(quota), money),
-    }
+    own.is_some_and(|quota| !accepts(mils_of(quota), money))
 }

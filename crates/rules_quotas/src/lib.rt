@@ -21,6 +21,7 @@ fn ratio_of(ratios: Ratios, class: u64) -> Ratio
 
 // base × numerator ÷ denominator, rounded half up. A number above its range counts as the top of the range: no product wraps, whatever the words of a
 // register.
+#[tactic(auto, using(crate::proofs::Ratios::product_fits))]
 fn quota_at(ratio: Ratio, base: Millions) -> Millions
     ensures { result ≡ quota_at ratio base }
 {

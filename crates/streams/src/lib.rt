@@ -24,6 +24,7 @@ pub fn read_text<R: Read>(source: &mut R, text: &mut [u8]) -> usize
         match source.read(&mut text[filled..]) {
             Ok(0) => return filled,
             Ok(came) => filled += came,
+            // Kept (no plainer): a failed read is a whole room of bytes, which no caller takes for the end; a Result would be made this number by each of them.
             Err(_) => return text.len(),
         }
     }

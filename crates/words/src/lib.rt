@@ -1,7 +1,7 @@
 // Runs of words in a memory that the host lends: a word read, a run of words stored. Nothing of the paper.
 #![tactic(auto)]
 
-ghost use Rattle.std.specs.Prelude.{◌≡◌, ◌≢◌, length, MatchOption, ◌<◌, min, get_or};
+ghost use Rattle.std.specs.Prelude.{◌≡◌, ◌≢◌, length, MatchOption, ◌<◌, min, get_or, position};
 ghost use Rattle.words.specs.Words.{stored};
 
 // Word k of a memory, `none` where there is none.
@@ -9,6 +9,13 @@ pub fn word_or<T: Copy>(ws: &[T], k: usize, none: T) -> T
     ensures { result ≡ get_or ws.now k none }
 {
     ws.get(k).copied().unwrap_or(none)
+}
+
+// The index of the first word that is the key.
+pub fn first_of<T: Copy + PartialEq>(ws: &[T], key: T) -> Option<usize>
+    ensures { result ≡ position (T.eq key) ws.now }
+{
+    ws.iter().position(|word| key == *word)
 }
 
 // A memory as an array of N words; none where it is shorter or longer. (std's `as_array` promises more than proofs over thousands of words can read.)

@@ -1,4 +1,5 @@
 -- `day::answer_lines` meets its contract. Assumes nothing.
+-- Kept (proof): the invariant is a record, `Reached`, and one line more is a text joined to the told ones: no tactic builds it.
 use Rattle.std.proofs.Common.{◌≡◌, ◌+◌, ◌/◌, ℕ, length, drop, ◌*◌, arith, refl, ap, subst, ◌∙◌}
 use Rattle.std.proofs.Math.Seq.{paste}
 use Rattle.rules.specs.declared.calls.Answer.{Answer}

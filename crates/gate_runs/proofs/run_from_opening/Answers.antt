@@ -1,4 +1,5 @@
 -- `gate_runs::run_from_opening` meets its contract. Assumes nothing.
+-- Kept (proof): the clause is a record of all that a run leaves, and `grind` splits it before it cites a law that gives one.
 use mathlib.Core.Path.{◌≡◌}
 use borrow.Author.Rules.{rules}
 use Rattle.rules.specs.Numbers.{number_of, refusal_number}

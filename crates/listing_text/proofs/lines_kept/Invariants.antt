@@ -1,9 +1,13 @@
--- `listing_text::lines_kept`: the keys of the lines read so far. Assumes nothing.
-use Rattle.std.proofs.Common.{List, ℕ}
+-- `listing_text::lines_kept`: the lines read so far are rows, and these are their keys. Assumes nothing.
+use Rattle.std.proofs.Common.{◌≡◌, ◌≤◌, true, length, take, map}
+use Rattle.std.specs.List.{list_all}
 use Rattle.listing.specs.Text.{row_good}
 use Rattle.listing.specs.Keys.{line_key}
-use Rattle.listing.proofs.Kept.{Kept}
 use Rattle.listing_text.proofs.lines_kept.Given as goal
 
 abbrev pub invariant-loop-i : goal.invariant-loop-i
-invariant-loop-i l = Kept (List ℕ) row_good line_key l.lines l.keys l.i
+invariant-loop-i l = record {
+  all : list_all row_good (take l.i l.lines) ≡ true;
+  room : length l.lines ≤ length l.keys;
+  keys : take l.i l.keys ≡ map line_key (take l.i l.lines);
+}

@@ -1,4 +1,5 @@
 -- `pairs::skip` meets its contract. Assumes nothing.
+-- Kept (proof): blocks of sixteen and the words that they are made of: a step that no lemma's first call shows.
 use Prim.Native.Nat.{ℕ, ◌/◌}
 use mathlib.Core.Path.{◌≡◌, ap, ◌∙◌}
 use mathlib.Core.List.{List}

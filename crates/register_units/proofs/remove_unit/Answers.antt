@@ -1,10 +1,8 @@
 -- `register_units::remove_unit` meets its contract. Assumes nothing.
+-- Kept (proof): two columns cut, changed and put back one in the other: `grind` makes no instance of the law.
 use mathlib.Core.Path.{refl, sym, ◌∙◌}
-use Rattle.register.proofs.Steps.{remove_unit_step, unit_not_there}
+use Rattle.register.proofs.Steps.{remove_unit_step}
 use Rattle.register_units.proofs.remove_unit.Goals as goal
-
-pub returns-in_default : goal.returns-in_default
-returns-in_default c = unit_not_there c.args.register.now c.args.unit c.if-register-ne-REGISTER.false c.if-n-gt256.false (sym c.place_of.ensures ∙ c.in_default.is)
 
 pub returns : goal.returns
 returns c =

@@ -1,4 +1,5 @@
 -- What a read gave stands behind what came before.
+-- Kept (proof): `Consumes-then` concludes a type made by cases and does not show the text in between.
 use Rattle.std.proofs.Common.{◌≡◌, ℕ, ◌+◌, ◌≤◌, List, ◌++◌, drop, rules, length, take, sym, ap, ◌∙◌, subst, le_refl, drop_at, length-take-le}
 use Rattle.std.proofs.lemmas.Slice.{take-put_mid_below}
 use Rattle.std.specs.Io.KnownBytes.{Consumes}

@@ -1,9 +1,9 @@
 -- `book::check::each_ok` meets its contract. Assumes nothing.
-use Rattle.std.proofs.Common.{◌≡◌, ◌+◌, get_or}
-use Rattle.std.specs.Prelude.{leb}
+use Rattle.std.proofs.Common.{◌≡◌}
+use Rattle.std.specs.Prelude.{leb, take}
+use Rattle.std.specs.List.{list_all}
 use Rattle.rules.specs.Limits.{top_money}
-use Rattle.words.specs.Each.{all_below}
 use Rattle.book.proofs.check.each_ok.Given as goal
 
-abbrev pub invariant-loop-j : goal.invariant-loop-j
-invariant-loop-j l = l.ok ≡ all_below l.j (λ k. leb (get_or l.book (2 + k) 0) top_money)
+abbrev pub invariant-loop-word : goal.invariant-loop-word
+invariant-loop-word l = l.ok ≡ list_all (λ word. leb word top_money) (take l.word-index l.money)

@@ -1,6 +1,7 @@
 -- `book::check::joined` meets its contract. Assumes nothing.
-use Rattle.book.specs.Joined.{Above}
+use Rattle.std.specs.Prelude.{◌≤◌, take}
+use Rattle.std.specs.List.{All}
 use Rattle.book.proofs.check.joined.Given as goal
 
-abbrev pub invariant-loop-j : goal.invariant-loop-j
-invariant-loop-j l = Above l.book 2 l.j l.m
+abbrev pub invariant-loop-word : goal.invariant-loop-word
+invariant-loop-word l = All (λ word. word ≤ l.m) (take l.word-index l.money)

@@ -1,7 +1,8 @@
 -- `book::check::money_ok` meets its contract. Assumes nothing.
-use Rattle.std.proofs.Common.{sym, arith}
-use Rattle.book.specs.Joined.{above_ok}
+-- Kept (proof): the join stands in a fact alone, and not in what is to be shown: the tactics do not find which one it is.
+use Rattle.std.proofs.Common.{arith}
+use Rattle.book.proofs.Money.{all_within}
 use Rattle.book.proofs.check.money_ok.Goals as goal
 
 pub returns-then-joined-lt4611686018427387904 : goal.returns-then-joined-lt4611686018427387904
-returns-then-joined-lt4611686018427387904 c = sym (above_ok _ 2 c.args.n _ c.joined.ensures (omega arith))
+returns-then-joined-lt4611686018427387904 c = all_within _ _ _ c.joined.ensures (omega arith)

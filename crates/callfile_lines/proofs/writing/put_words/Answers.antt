@@ -1,4 +1,5 @@
 -- `callfile_lines::writing::put_words` meets its contract. Assumes nothing.
+-- Kept (proof): five columns put one after the other: over a record and its fields `grind` makes no instance of the law.
 use Rattle.callfile.specs.Lines.{spelled}
 use Rattle.callfile_lines.proofs.Puts.{words_put}
 use Rattle.callfile_lines.proofs.writing.put_words.Goals as goal
