@@ -1,6 +1,6 @@
 -- What the library's methods on slices say of a column, in the words of specs/Column.antt and specs/Scan.antt. Assumes nothing.
-use Rattle.std.proofs.Common.{ℕ, suc, ◌+◌, ◌≤◌, ◌≡◌, refl, sym, ◌∙◌, Bool, true, false, not, ◌&&◌, List, [], ◌∷◌, ◌++◌, eqb, leb, ltb, cond, length, length-append, ◌-◌, arith, ltb-false, le-leb, Option, Some, None}
-use Rattle.std.specs.List.{list_all, list_any, position, position_or_len}
+use Rattle.std.proofs.Common.{ℕ, suc, ◌+◌, ◌≤◌, ◌≡◌, refl, sym, Bool, true, false, not, List, [], ◌∷◌, eqb, ltb, cond, length, ◌-◌, arith, ltb-false, Option, Some, None}
+use Rattle.std.specs.List.{list_any, position, position_or_len}
 use Rattle.std.specs.Option.{unwrap_or}
 use Rattle.std.specs.Cmp.Lexicographic.{pointwise}
 use borrow.Rule.Slice.PartMut.{put_mid}
@@ -8,7 +8,7 @@ use Rattle.std.proofs.Math.Seq.{paste}
 use Rattle.std.proofs.lemmas.Slice.{put_mid-paste}
 use Rattle.std.proofs.lemmas.List.Recursion.{is_position_or_len}
 use Rattle.rules.specs.Tests.{pick}
-use Rattle.columns.specs.Column.{dashed, same, minus}
+use Rattle.columns.specs.Column.{same, minus}
 use Rattle.columns.specs.Scan.{blanks}
 
 -- `==`
@@ -55,29 +55,3 @@ blanks_is xs o e =
     go : (b : Bool) → ltb (blanks xs) (length xs) ≡ b → unwrap_or (cond b (Some (blanks xs)) None) (length xs) ≡ blanks xs
     go true h = refl
     go false h = omega (arith, ltb-false (blanks xs) (length xs) h, blanks_most xs)
-
--- `split_last` and `all`
-dash_is : (b : List ℕ) (l : ℕ) → same (b ++ l ∷ []) (dashed (suc (length b))) ≡ (list_all (λ x. eqb x 32) b && eqb l 45)
-unfolding same dashed
-dash_is [] l = last (eqb l 45)
-  where
-    last : (p : Bool) → (p && true) ≡ p
-    last true = refl
-    last false = refl
-dash_is (x ∷ bs) l = rw (dash_is bs l) (first (eqb x 32))
-  where
-    first : (p : Bool) → (p && (list_all (λ y. eqb y 32) bs && eqb l 45)) ≡ ((p && list_all (λ y. eqb y 32) bs) && eqb l 45)
-    first true = refl
-    first false = refl
-
-module _ (p b : List ℕ) (l : ℕ) (t : Bool) (e : p ≡ b ++ l ∷ []) (a : t ≡ list_all (λ x. eqb x 32) b) where
-  dash_last : (t && eqb l 45) ≡ (leb 1 (length p) && same p (dashed (length p)))
-  dash_last =
-      let n : length p ≡ suc (length b) = rw e (omega (arith, length-append b (l ∷ []))) in
-      rw (n, le-leb 1 (suc (length b)) (omega arith), e, a) (sym (dash_is b l))
-
-  pub dash_behind : t ≡ true → eqb l 45 ≡ (leb 1 (length p) && same p (dashed (length p)))
-  dash_behind k = rw k at dash_last
-
-  pub dash_not : t ≡ false → t ≡ (leb 1 (length p) && same p (dashed (length p)))
-  dash_not k = k ∙ (rw k at dash_last)

@@ -2,7 +2,6 @@
 #![tactic(auto)]
 
 ghost use Rattle.std.specs.Prelude.{◌≡◌, ◌&&◌, ◌≤◌, eqb, leb, length, not, position};
-ghost use Rattle.std.specs.List.{list_all};
 ghost use Rattle.std.specs.Bool.{then_some};
 ghost use Rattle.columns.specs.Column.{dashed, number, same, minus, read_plain, plain_at, optional_at, signed_at};
 ghost use Rattle.columns.specs.Reading.{formed_plain, formed_optional, formed_signed};
@@ -10,7 +9,7 @@ ghost use Rattle.columns.specs.Scan.{blanks, all_digits};
 
 use columns::bytes::column_at;
 use columns::reading::Signed;
-use columns_write::tabled::{digits_in, marked_in};
+use columns_write::tabled::{digits_in, is_front, marked_in};
 use columns_write::written::mark_of;
 
 // The first byte that is no blank.
@@ -60,22 +59,12 @@ fn read_plain(column: &[u8]) -> Option<u64>
     run_of_digits(digits)
 }
 
-// Only blanks stand in a column.
-fn is_blank(column: &[u8]) -> bool
-    ensures { result ≡ list_all (λ b. eqb b 32) column.now }
-{
-    column.iter().all(|b| *b == b' ')
-}
-
 // Whether a column is "-".
-#[tactic(auto, using(columns::proofs::Methods::dash_behind, columns::proofs::Methods::dash_not))]
+#[tactic(auto, using(columns::proofs::Parts::dash_is, columns::proofs::Parts::dash_not))]
 fn is_dash(column: &[u8]) -> bool
     ensures { result ≡ (leb 1 (length column.now) && same column.now (dashed (length column.now))) }
 {
-    match column.split_last() {
-        Some((last, blanks)) => is_blank(blanks) && *last == b'-',
-        None => false,
-    }
+    !column.is_empty() && is_front(column, b'-')
 }
 
 // The number in the w columns from at on.

@@ -1,10 +1,11 @@
-// What the table of powers says of a text: the number that its digits make, and whether it is what is written for a number.
-ghost use Rattle.std.specs.Prelude.{◌≡◌, ◌≤◌, ◌<◌, ◌^◌, ◌&&◌, ltb, length};
+// What the powers of ten say of a text: the number that its digits make, and whether it is what is written for a number.
+ghost use Rattle.std.specs.Prelude.{◌≡◌, ◌≤◌, ◌^◌, ◌&&◌, eqb, ltb, length};
+ghost use Rattle.std.specs.List.{list_all};
+ghost use Rattle.columns.specs.Parts.{front};
 ghost use Rattle.columns.specs.Column.{marked, digit as digitOf, number, digits, same};
 
-use crate::table::power;
-use crate::written::byte_at;
-use columns_powers::MOST;
+use crate::written::glyph;
+use columns_powers::{MOST_DIGITS, fits};
 
 pub fn digit(b: u8) -> u64
     ensures { result ≡ digitOf b }
@@ -16,18 +17,17 @@ pub fn digit(b: u8) -> u64
     }
 }
 
-// The number that the digits of a column make.
-// Kept (rule): "A constant table of the nineteen powers of ten serves writer and reader"; a plain column is taken in by tens in `columns_read`.
-#[tactic(auto, using(columns::proofs::Steps::sum_steps))]
+// The number that the digits of a column make, by tens.
+#[tactic(auto, using(columns::proofs::Steps::run_on, columns::proofs::Steps::run_over, columns::proofs::Steps::run_room, columns::proofs::Steps::digit_most))]
 fn number_of(column: &[u8]) -> u64
     requires { length column.now ≤ 19 }
     ensures { result ≡ number column.now }
 {
-    let mut sum = 0;
-    for (i, &b) in column.iter().enumerate() {
-        sum += digit(b) * power(column.len() - 1 - i);
+    let mut number = 0;
+    for &b in column {
+        number = number * 10 + digit(b);
     }
-    sum
+    number
 }
 
 // The number that the digits of a column's last nineteen bytes make.
@@ -35,18 +35,40 @@ fn number_of(column: &[u8]) -> u64
 pub fn digits_in(column: &[u8]) -> u64
     ensures { result ≡ digits column.now }
 {
-    number_of(&column[column.len().saturating_sub(19)..])
+    number_of(&column[column.len().saturating_sub(MOST_DIGITS)..])
 }
 
-// Whether a column is what is written for n with the mark.
-#[tactic(auto, using(crate::proofs::Puts::marked_here, crate::proofs::Puts::marked_not, crate::proofs::Puts::marked_over))]
+// Only blanks stand in a column.
+fn is_blank(column: &[u8]) -> bool
+    ensures { result ≡ list_all (λ b. eqb b 32) column.now }
+{
+    column.iter().all(|b| *b == b' ')
+}
+
+// Whether a column is blanks, with the mark in its last byte.
+#[tactic(auto, using(columns::proofs::Parts::front_behind, columns::proofs::Parts::front_not), unfolding(columns::specs::Parts::front, columns::specs::Column::same))]
+pub fn is_front(column: &[u8], mark: u8) -> bool
+    ensures { result ≡ same column.now (front mark (length column.now)) }
+{
+    match column.split_last() {
+        Some((last, blanks)) => is_blank(blanks) && *last == mark,
+        None => true,
+    }
+}
+
+// Whether a column is what is written for n with the mark: from the right, as it is written.
+#[tactic(auto, using(crate::proofs::Turns::same_turns))]
 fn is_marked(column: &[u8], mark: u8, n: u64) -> bool
-    requires { n < 10 ^ 19 }
     ensures { result ≡ same column.now (marked mark (length column.now) n) }
 {
-    for (i, &b) in column.iter().enumerate() {
-        if b != byte_at(mark, n, column.len() - 1 - i) {
+    let mut rest = n;
+    for i in (0..column.len()).rev() {
+        if column[i] != glyph(rest % 10) {
             return false;
+        }
+        rest /= 10;
+        if rest == 0 {
+            return is_front(&column[..i], mark);
         }
     }
     true
@@ -56,5 +78,5 @@ fn is_marked(column: &[u8], mark: u8, n: u64) -> bool
 pub fn marked_in(column: &[u8], mark: u8, n: u64) -> bool
     ensures { result ≡ (ltb n (10 ^ 19) && same column.now (marked mark (length column.now) n)) }
 {
-    n < MOST && is_marked(column, mark, n)
+    fits(MOST_DIGITS, n) && is_marked(column, mark, n)
 }

@@ -1,26 +1,15 @@
 // Numbers put into columns of a buffer: plain, optional and signed.
-ghost use Rattle.std.specs.Prelude.{◌≡◌, ◌+◌, ◌<◌, ◌^◌, length};
+ghost use Rattle.std.specs.Prelude.{◌≡◌, ◌+◌, ◌<◌, length, replicate};
 ghost use Rattle.std.specs.Option.{is_some, unwrap_or};
 ghost use Rattle.rules.specs.Tests.{pick};
-ghost use Rattle.columns.specs.Column.{blank, byte_at, marked, dashed, plain_put, optional_put, signed_put};
+ghost use Rattle.columns.specs.Column.{marked, dashed, plain_put, optional_put, signed_put};
+ghost use Rattle.columns.specs.Parts.{front};
 
-use crate::table::power;
 use columns::bytes::holds;
 use columns::reading::Signed;
 use columns_powers::{fits, optional_fits, signed_fits};
 
-// Kept (no plainer): `n < 10 ^ 19`, past which the table ends, stands in four private contracts; public functions test it once, by `fits` or `MOST`. A type of
-// such numbers would be made at that test and read at each byte, with the bound said in its invariant and again where the power is looked up.
-// Whether place k, counted from 0 at the right, is in front of the first digit of n.
-#[tactic(auto, using(columns::proofs::Steps::blank_far))]
-fn is_blank(n: u64, k: usize) -> bool
-    requires { n < 10 ^ 19 }
-    ensures { result ≡ blank n k }
-{
-    18 < k || (0 < k && n < power(k))
-}
-
-fn glyph(d: u64) -> u8
+pub(crate) fn glyph(d: u64) -> u8
     requires { d < 10 }
     ensures { result ≡ 48 + d }
 {
@@ -28,45 +17,57 @@ fn glyph(d: u64) -> u8
     b'0' + (d as u8)
 }
 
-// The byte of n at place k.
-#[tactic(auto, using(columns::proofs::Steps::places))]
-pub(crate) fn byte_at(mark: u8, n: u64, k: usize) -> u8
-    requires { n < 10 ^ 19 }
-    ensures { result ≡ byte_at mark n k }
+// The mark into the last byte of a column of blanks.
+#[tactic(auto, using(columns::proofs::Parts::front_put), unfolding(columns::specs::Parts::front))]
+fn put_mark(column: &mut [u8], mark: u8)
+    requires { column.old ≡ replicate (length column.old) 32 }
+    ensures { column.new ≡ front mark (length column.old) }
 {
-    if is_blank(n, k) {
-        return if is_blank(n, k - 1) { b' ' } else { mark };
+    if let Some(last) = column.last_mut() {
+        *last = mark;
     }
-    glyph(n / power(k) % 10)
+}
+
+// n over a column of blanks: from the right, the digits that are left of n, and when none is, the mark in front of them. How many digits n has the compiler
+// can't know, and it unrolls nothing.
+// Kept (proof): by index; tried: under `.iter_mut().rev()` the goals speak of an iterator and of what its `next` yielded, and stay open.
+#[tactic(auto, using(crate::proofs::Turns::put_turns))]
+fn put_over(column: &mut [u8], mark: u8, n: u64)
+    requires { column.old ≡ replicate (length column.old) 32 }
+    ensures { column.new ≡ marked mark (length column.old) n }
+{
+    let mut rest = n;
+    for i in (0..column.len()).rev() {
+        column[i] = glyph(rest % 10);
+        rest /= 10;
+        if rest == 0 {
+            return put_mark(&mut column[..i], mark);
+        }
+    }
 }
 
 // n right-justified into a column, with the mark directly before its first digit.
-#[tactic(auto, using(crate::proofs::Puts::marked_on, columns::specs::Laws::length_marked, std::proofs::lemmas::List::take_all))]
+// Kept (speed): blanks first, where the width is known: filled in front of the digits alone, each is a call of the C library.
 fn put_marked(column: &mut [u8], mark: u8, n: u64)
-    requires { n < 10 ^ 19 }
     ensures { column.new ≡ marked mark (length column.old) n }
 {
-    let w = column.len();
-    for (i, b) in column.iter_mut().enumerate() {
-        *b = byte_at(mark, n, w - 1 - i);
-    }
+    column.fill(b' ');
+    put_over(column, mark, n);
+}
+
+// "-" into a column, and blanks in front of it.
+#[tactic(auto, using(columns::proofs::Parts::front_dash))]
+fn put_dash(column: &mut [u8])
+    ensures { column.new ≡ dashed (length column.old) }
+{
+    column.fill(b' ');
+    put_mark(column, b'-');
 }
 
 pub fn mark_of(below: bool) -> u8
     ensures { result ≡ pick below 45 32 }
 {
     if below { b'-' } else { b' ' }
-}
-
-// "-" into a column: a minus in the last byte, blanks before it.
-#[tactic(auto, using(crate::proofs::Puts::dash_put), unfolding(columns::specs::Column::dashed))]
-fn put_dash(column: &mut [u8])
-    ensures { column.new ≡ dashed (length column.old) }
-{
-    column.fill(b' ');
-    if let Some(last) = column.last_mut() {
-        *last = b'-';
-    }
 }
 
 // n into the w columns from at on; nothing where there is no room. It has no number to refuse by: its caller (`listing::lines`, `callfile_lines::writing`) has
