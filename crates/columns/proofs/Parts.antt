@@ -3,6 +3,7 @@ use Rattle.std.specs.Prelude.{ℕ, zero, suc, ◌+◌, ◌-◌, ◌/◌, ◌%◌
 use Rattle.std.specs.List.{list_all}
 use Rattle.std.proofs.Common.{ap, sym, ◌∙◌, arith, length-append, le-leb, ltb-true, ltb-false, lt-ltb, le-ltb}
 use Rattle.std.proofs.lemmas.Bool.{lt-leb}
+use Rattle.std.proofs.Math.Bool.{and-true, and_assoc}
 use Rattle.std.proofs.Math.ListN.{replicate, set}
 use native.Mathlib.Nat.{pow-succ', div-one, div-div-eq-div-mul}
 use Rattle.columns.specs.Column.{blank, byte_at, marked, dashed, same}
@@ -66,16 +67,12 @@ marked_front mark (suc (suc k)) n h =
 
 -- ---- two parts compared with two
 
-and_assoc : (a b c : Bool) → (a && (b && c)) ≡ ((a && b) && c)
-and_assoc true b c = refl
-and_assoc false b c = refl
-
 pub same_parts : (a b x y : List ℕ) → length a ≡ length x → same (a ++ b) (x ++ y) ≡ (same a x && same b y)
 unfolding same
 same_parts [] b [] y e = refl
 same_parts [] b (x ∷ xs) y e = absurd (omega (arith, e))
 same_parts (a ∷ p) b [] y e = absurd (omega (arith, e))
-same_parts (a ∷ p) b (x ∷ q) y e = rw (same_parts p b q y (omega (arith, e))) (and_assoc (eqb a x) (same p q) (same b y))
+same_parts (a ∷ p) b (x ∷ q) y e = rw (same_parts p b q y (omega (arith, e))) (sym (and_assoc (eqb a x) (same p q) (same b y)))
 
 -- ---- the bytes in front: blanks, and the mark in the last
 
@@ -90,12 +87,8 @@ front_put mark (suc k) h = let e : suc k - 1 ≡ k = omega arith in rw e (mark_p
 
 front_is : (mark : ℕ) (b : List ℕ) (l : ℕ) → same (b ++ l ∷ []) (front mark (suc (length b))) ≡ (list_all (λ x. eqb x 32) b && eqb l mark)
 unfolding same front
-front_is mark [] l = last (eqb l mark)
-  where
-    last : (p : Bool) → (p && true) ≡ p
-    last true = refl
-    last false = refl
-front_is mark (x ∷ bs) l = rw (front_is mark bs l) (and_assoc (eqb x 32) (list_all (λ y. eqb y 32) bs) (eqb l mark))
+front_is mark [] l = and-true (eqb l mark)
+front_is mark (x ∷ bs) l = rw (front_is mark bs l) (sym (and_assoc (eqb x 32) (list_all (λ y. eqb y 32) bs) (eqb l mark)))
 
 module _ (mark : ℕ) (p b : List ℕ) (l : ℕ) (t : Bool) (e : p ≡ b ++ l ∷ []) (a : t ≡ list_all (λ x. eqb x 32) b) where
   front_last : (t && eqb l mark) ≡ same p (front mark (length p))
@@ -108,8 +101,6 @@ module _ (mark : ℕ) (p b : List ℕ) (l : ℕ) (t : Bool) (e : p ≡ b ++ l �
 
   pub front_not : t ≡ false → t ≡ same p (front mark (length p))
   front_not k = k ∙ (rw k at front_last)
-
--- ---- the digits from the right
 
 -- ---- "-" alone
 

@@ -1,6 +1,7 @@
 -- One turn of each loop over a column from right to left, over plain values. Assumes nothing.
 use Rattle.std.specs.Prelude.{◌&&◌, eqb}
-use Rattle.std.proofs.Common.{ℕ, zero, suc, ◌<◌, get_or, ◌+◌, ◌-◌, ◌/◌, ◌%◌, ◌≤◌, ◌≡◌, refl, ap, sym, ◌∙◌, Bool, true, false, List, [], ◌∷◌, ◌++◌, length, take, drop, length-take-le, length-set, arith, append_assoc, eq-eqb, ne_eqb}
+use Rattle.std.proofs.Common.{ℕ, zero, suc, ◌<◌, get_or, ◌+◌, ◌-◌, ◌/◌, ◌%◌, ◌≤◌, ◌≡◌, refl, ap, sym, ◌∙◌, true, false, List, [], ◌∷◌, ◌++◌, length, take, drop, length-take-le, length-set, arith, append_assoc, eq-eqb, ne_eqb}
+use Rattle.std.proofs.Math.Bool.{and-true, and-false}
 use Rattle.std.proofs.Math.ListN.{replicate, set}
 use Rattle.std.proofs.Math.Seq.{take-suc, take-take}
 use Rattle.std.proofs.lemmas.List.{drop-set, take-set, take-replicate}
@@ -56,30 +57,22 @@ module _ (t : List ℕ) (mark i rest b : ℕ) (f : b ≡ 48 + rest % 10) (some :
       let a : take i t ≡ take (i - 1) t ++ get_or t (i - 1) 0 ∷ [] = ap (λ (m : ℕ). take m t) (sym (before mark i rest b f some)) ∙ take-suc t (i - 1) 0 (omega arith) in
       rw a (same_parts (take (i - 1) t) (get_or t (i - 1) 0 ∷ []) x (b ∷ []) (length-take-le (i - 1) t (omega arith) ∙ sym l))
 
-  and_true : (p : Bool) → (p && true) ≡ p
-  and_true true = refl
-  and_true false = refl
-
-  and_false : (p : Bool) → (p && false) ≡ false
-  and_false true = refl
-  and_false false = refl
-
   pub same_turn : get_or t (i - 1) 0 ≡ b → (rest / 10 ≡ 0 → ⊥) → same (take i t) (marked mark i rest) ≡ same (take (i - 1) t) (marked mark (i - 1) (rest / 10))
   same_turn e o =
       rw (tenth mark i rest b f some o, ends (marked mark (i - 1) (rest / 10)) (length_marked mark (i - 1) (rest / 10)), eq-eqb (get_or t (i - 1) 0) b e)
-      (and_true (same (take (i - 1) t) (marked mark (i - 1) (rest / 10))))
+      (and-true (same (take (i - 1) t) (marked mark (i - 1) (rest / 10))))
 
   pub same_last : get_or t (i - 1) 0 ≡ b → rest / 10 ≡ 0 → same (take i t) (marked mark i rest) ≡ same (take (i - 1) t) (front mark (length (take (i - 1) t)))
   same_last e z =
       let l : length (take (i - 1) t) ≡ i - 1 = length-take-le (i - 1) t (omega arith) in
       rw (last mark i rest b f some z, l, ends (front mark (i - 1)) (length-front mark (i - 1)), eq-eqb (get_or t (i - 1) 0) b e)
-      (and_true (same (take (i - 1) t) (front mark (i - 1))))
+      (and-true (same (take (i - 1) t) (front mark (i - 1))))
 
   pub same_not : (get_or t (i - 1) 0 ≡ b → ⊥) → same (take i t) (marked mark i rest) ≡ false
   same_not o = go (rest / 10) refl
     where
       none : (x : List ℕ) → length x ≡ i - 1 → same (take i t) (x ++ b ∷ []) ≡ false
-      none x l = ends x l ∙ rw (ne_eqb (get_or t (i - 1) 0) b o) (and_false (same (take (i - 1) t) x))
+      none x l = ends x l ∙ rw (ne_eqb (get_or t (i - 1) 0) b o) (and-false (same (take (i - 1) t) x))
 
       go : (m : ℕ) → rest / 10 ≡ m → same (take i t) (marked mark i rest) ≡ false
       go zero z = rw (last mark i rest b f some z) (none (front mark (i - 1)) (length-front mark (i - 1)))

@@ -1,4 +1,4 @@
-// What the powers of ten say of a text: the number that its digits make, and whether it is what is written for a number.
+// What is said of a text: the number that its digits make, and whether it is what is written for a number.
 ghost use Rattle.std.specs.Prelude.{◌≡◌, ◌≤◌, ◌^◌, ◌&&◌, eqb, ltb, length};
 ghost use Rattle.std.specs.List.{list_all};
 ghost use Rattle.columns.specs.Parts.{front};
