@@ -2,9 +2,10 @@
 ghost use Rattle.std.specs.Prelude.{◌≡◌, ◌≤◌, ◌^◌, ◌&&◌, eqb, ltb, length};
 ghost use Rattle.std.specs.List.{list_all};
 ghost use Rattle.columns.specs.Parts.{front};
-ghost use Rattle.columns.specs.Column.{marked, digit as digitOf, number, digits, same};
+ghost use Rattle.columns.specs.Column.{marked, digit as digitOf, number, digits, same, plain_at, digits_at, marked_at};
 
 use crate::written::glyph;
+use columns::bytes::column_at;
 use columns_powers::{MOST_DIGITS, fits};
 
 pub fn digit(b: u8) -> u64
@@ -79,4 +80,27 @@ pub fn marked_in(column: &[u8], mark: u8, n: u64) -> bool
     ensures { result ≡ (ltb n (10 ^ 19) && same column.now (marked mark (length column.now) n)) }
 {
     fits(MOST_DIGITS, n) && is_marked(column, mark, n)
+}
+
+// The number that the digits of the last nineteen of the w bytes from at on make; 0 where the text is too short. It is that of a plain column, formed or not.
+#[tactic(auto, unfolding(columns::specs::Column::digits_at, columns::specs::Column::plain_at, columns::specs::Column::read_plain))]
+pub fn digits_at(text: &[u8], at: usize, w: usize) -> u64
+    ensures digits { result ≡ digits_at text.now at w }
+    ensures plain { result ≡ (plain_at text.now at w).number }
+{
+    match column_at(text, at, w) {
+        Some(column) => digits_in(column),
+        None => 0,
+    }
+}
+
+// Whether the w bytes from at on are what is written for n with the mark; false where the text is too short, or n is not written at all.
+#[tactic(auto, using(columns::specs::Pastes::length_part), unfolding(columns::specs::Column::marked_at))]
+pub fn marked_at(text: &[u8], at: usize, w: usize, mark: u8, n: u64) -> bool
+    ensures { result ≡ marked_at text.now at w mark n }
+{
+    match column_at(text, at, w) {
+        Some(column) => marked_in(column, mark, n),
+        None => false,
+    }
 }

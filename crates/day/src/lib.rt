@@ -139,16 +139,24 @@ pub fn answer_load(
 // One byte more than a call line has, its line feed left out.
 pub const MOST_KEPT: usize = LINE_BYTES + 1;
 
-// What a piece of the input holds behind the lines that were answered, moved to its front: thirty-nine bytes at most, since a line of more is
-// malformed whatever follows. Answers how many bytes are kept.
+// What the first `filled` bytes hold behind the lines that were answered, moved to the buffer's front: thirty-nine bytes at most, since a line of more is
+// malformed whatever follows. Answers how many bytes are kept: none where the buffer has not so many.
 #[tactic(auto, using(std::proofs::lemmas::List::Edits::paste_none), unfolding(crate::specs::Day::kept_bytes))]
+pub fn keep_rest_of(buffer: &mut [u8], used: usize, filled: usize) -> usize
+    ensures { (result ≡ kept_bytes used filled (length buffer.old)) × (buffer.new ≡ paste buffer.old 0 (drop used buffer.old) result) }
+{
+    if buffer.len() < filled || filled <= used {
+        return 0;
+    }
+    let n = (filled - used).min(MOST_KEPT);
+    buffer.copy_within(used..used + n, 0);
+    n
+}
+
+// The same of a whole piece of the input.
 pub fn keep_rest(piece: &mut [u8], used: usize) -> usize
     ensures { (result ≡ kept_bytes used (length piece.old) (length piece.old)) × (piece.new ≡ paste piece.old 0 (drop used piece.old) result) }
 {
-    if piece.len() <= used {
-        return 0;
-    }
-    let n = (piece.len() - used).min(MOST_KEPT);
-    piece.copy_within(used..used + n, 0);
-    n
+    let filled = piece.len();
+    keep_rest_of(piece, used, filled)
 }

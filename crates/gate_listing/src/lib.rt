@@ -1,14 +1,17 @@
 // The gate's listing, written into a lent buffer.
 #![tactic(auto)]
 
-ghost use Rattle.std.specs.Prelude.{◌≡◌, true, ◌*◌, ◌≤◌, length};
+ghost use Rattle.std.specs.Prelude.{◌≡◌, true, ◌*◌, ◌≤◌, ◌&&◌, not, length};
+ghost use Rattle.std.specs.Bool.{then_some};
 ghost use Rattle.std.proofs.Math.Seq.{paste};
 ghost use Rattle.rules.specs.Numbers.{refusal_number};
+ghost use Rattle.rows.specs.Row.{row_kept, row_at};
 ghost use Rattle.listing.specs.Text.{listing_text, rows_kept, row_bytes};
+ghost use Rattle.listing.specs.Keys.{key_of, among};
 ghost use Rattle.gate_listing.specs.Listed.{rows_on, list_refusal, listed};
 ghost use Rattle.claim.specs.Step.{memory};
 
-use listing::keys::{Key, all_differ};
+use listing::keys::{is_among, key_of};
 use listing::lines::{ROW, put_row};
 use orders::host::sound;
 use quota::asks::groups_enrolled;
@@ -16,22 +19,31 @@ use rows::row_at;
 use rules::limits::MOST_GROUPS;
 use rules::refusals::{Refusal, refuse};
 
+// The key of a group's row, where it keeps its rules and none of those seen is the same.
+#[tactic(auto, using(crate::proofs::Rows::key_at, crate::proofs::Rows::kept_where, crate::proofs::Rows::none_kept))]
+fn new_key(register: &[u32], book: &[u64], group: u64, seen: &[u32]) -> Option<u32>
+    ensures { let row = (row_at register.now book.now group).row in result ≡ then_some (row_kept row && not (among (key_of row) seen.now)) (key_of row) }
+{
+    let key = key_of(row_at(register, book, group).ok()?);
+    (!is_among(key, seen)).then_some(key)
+}
+
 // Kept (no plainer): `listing_text::lines_kept` is the same loop over lines; one function of both would take a closure, and its contract at both.
-// Whether the rows of the first n groups keep their rules, no code with its class repeated.
-#[tactic(auto, using(crate::proofs::Rows::keys_more, crate::proofs::Rows::rest_more, crate::proofs::Rows::rest_none, crate::proofs::Rows::rest_all, crate::proofs::Rows::code_at, crate::proofs::Rows::class_at, crate::proofs::Rows::none_on, crate::proofs::Rows::kept_where, crate::proofs::Rows::none_kept, std::proofs::lemmas::List::take_more_set, std::proofs::lemmas::Grind::common_steps))]
+// Whether the rows of the first n groups keep their rules, no code with its class repeated. No row is read behind the first that shows they do not.
+#[tactic(auto, using(crate::proofs::Rows::keys_more, crate::proofs::Rows::rest_more, crate::proofs::Rows::rest_none, crate::proofs::Rows::rest_all, crate::proofs::Rows::none_on, std::proofs::lemmas::List::take_more_set, std::proofs::lemmas::Grind::common_steps))]
 fn rows_kept(register: &[u32], book: &[u64], n: usize) -> bool
     requires { n ≤ 64 }
     ensures { result ≡ rows_kept (rows_on register.now book.now 0 n) }
 {
-    let mut keys = [Key { code: 0, class: 0 }; MOST_GROUPS as usize];
+    let mut keys = [0; MOST_GROUPS as usize];
     for i in 0..n {
         // Kept (no plainer): `usize` has no `From` into `u64`, here and below; `try_from` would add a refusal that never comes.
-        match row_at(register, book, i as u64) {
-            Ok(row) => keys[i] = Key::from(row),
-            Err(_) => return false,
+        match new_key(register, book, i as u64, &keys[..i]) {
+            Some(key) => keys[i] = key,
+            None => return false,
         }
     }
-    all_differ(&keys[..n])
+    true
 }
 
 // 1, 22 or nothing.

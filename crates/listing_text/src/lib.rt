@@ -1,13 +1,14 @@
 // A whole text of rows: checked, and each row by its place.
 #![tactic(auto)]
 
-ghost use Rattle.std.specs.Prelude.{◌≡◌, ◌≤◌, length};
+ghost use Rattle.std.specs.Prelude.{◌≡◌, ◌≤◌, ◌&&◌, not, length};
+ghost use Rattle.std.specs.Bool.{then_some};
 ghost use Rattle.rules.specs.Numbers.{refusal_number};
-ghost use Rattle.listing.specs.Text.{is_listing, refusal_of_text, step_at, step_in, next_at};
-ghost use Rattle.listing.specs.Keys.{lines_kept};
+ghost use Rattle.listing.specs.Text.{row_good, is_listing, refusal_of_text, step_at, step_in, next_at};
+ghost use Rattle.listing.specs.Keys.{among, line_key, lines_kept};
 
 use columns::bytes::{column_at, holds};
-use listing::keys::{Key, all_differ};
+use listing::keys::{is_among, key_of};
 use listing::lines::ROW;
 use listing::texts::Step;
 use listing_row::read_line;
@@ -17,21 +18,30 @@ use rules::refusals::{Refusal, refuse};
 // "at most 64 rows" (Lines and columns): one for each group
 const MOST_ROWS: usize = MOST_GROUPS as usize;
 
+// The key of a line that is a row, where none of those seen is the same.
+#[tactic(auto, using(crate::proofs::Turns::key_in))]
+fn new_key(line: &[u8], seen: &[u32]) -> Option<u32>
+    ensures { result ≡ then_some (row_good line.now && not (among (line_key line.now) seen.now)) (line_key line.now) }
+{
+    let key = key_of(read_line(line)?);
+    (!is_among(key, seen)).then_some(key)
+}
+
 // Kept (no plainer): `gate_listing::rows_kept` is the same loop over groups; one function of both would take a closure, and its contract at both.
-// Whether each line is a row, and no code with its class is repeated.
-#[tactic(auto, using(crate::proofs::Turns::good_more, crate::proofs::Turns::keys_more, crate::proofs::Turns::code_in, crate::proofs::Turns::class_in, std::proofs::lemmas::List::take_more_set, std::proofs::lemmas::Grind::common_steps))]
+// Whether each line is a row, and no code with its class is repeated. No line is read behind the first that shows they are not.
+#[tactic(auto, using(crate::proofs::Turns::kept_rest, crate::proofs::Turns::rest_more, crate::proofs::Turns::rest_none, crate::proofs::Turns::keys_more, std::proofs::lemmas::List::take_more_set, std::proofs::lemmas::Grind::common_steps))]
 fn lines_kept(lines: &[[u8; ROW]]) -> bool
     requires { length lines.now ≤ 64 }
     ensures { result ≡ lines_kept lines.now }
 {
-    let mut keys = [Key { code: 0, class: 0 }; MOST_ROWS];
+    let mut keys = [0; MOST_ROWS];
     for (i, line) in lines.iter().enumerate() {
-        match read_line(line) {
-            Some(row) => keys[i] = Key::from(row),
+        match new_key(line, &keys[..i]) {
+            Some(key) => keys[i] = key,
             None => return false,
         }
     }
-    all_differ(&keys[..lines.len()])
+    true
 }
 
 // Whether the whole text is a listing.
