@@ -7,7 +7,7 @@ ghost use Rattle.quota.specs.Calls.{closed_at, closed_below, close_refusal, clos
 
 use quota::soundness::sound;
 use quota_records::closed_group;
-use register_groups::{group_at, group_count, put_group};
+use register_groups::{group_at, group_count, put_group_inlined};
 use rules::refusals::Refusal;
 
 // Kept (no plainer): read, changed and put, as in calls 4 to 7 (`quota_declare`); one function of the five would take a closure, and need its contract at each.
@@ -17,7 +17,7 @@ fn close_group(register: &mut [u32], i: usize)
     ensures { register.new ≡ closed_at register.old i }
 {
     let agreed = group_at(register, i);
-    put_group(register, i, closed_group(agreed));
+    put_group_inlined(register, i, closed_group(agreed));
 }
 
 // The quota part of call 11: refused where the register is not sound.

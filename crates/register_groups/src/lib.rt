@@ -159,9 +159,10 @@ pub fn quota_at(register: &[u32], i: usize) -> Quota
     group_at(register, i).quota
 }
 
-// Group i of a register replaced; where there is none, nothing.
+// As `put_group`, always within its caller's code: the close replaces every group, and a call for each takes it twice the instructions.
 #[tactic(auto, using(register::proofs::Steps::put_step, std::proofs::lemmas::Grind::common_steps), unfolding(register::specs::Layout::put_record))]
-pub fn put_group(register: &mut [u32], i: usize, group: Group)
+#[inline(always)]
+pub fn put_group_inlined(register: &mut [u32], i: usize, group: Group)
     ensures { register.new ≡ put_group register.old i group }
 {
     if 64 <= i {
@@ -170,6 +171,13 @@ pub fn put_group(register: &mut [u32], i: usize, group: Group)
     if let Some(register) = register.as_mut_array() {
         scatter(register, i, &words_of(group));
     }
+}
+
+// Group i of a register replaced; where there is none, nothing. Calls 4 to 7 replace one group: one copy serves them.
+pub fn put_group(register: &mut [u32], i: usize, group: Group)
+    ensures { register.new ≡ put_group register.old i group }
+{
+    put_group_inlined(register, i, group);
 }
 
 // Groups enrolled; 0 in a memory without a header.
