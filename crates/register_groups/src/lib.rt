@@ -159,7 +159,7 @@ pub fn quota_at(register: &[u32], i: usize) -> Quota
     group_at(register, i).quota
 }
 
-// As `put_group`, always within its caller's code: the close replaces every group, and a call for each takes it twice the instructions.
+// As `put_group`, always within its caller's code: the close replaces every group, and a call for each takes more than twice the instructions.
 #[tactic(auto, using(register::proofs::Steps::put_step, std::proofs::lemmas::Grind::common_steps), unfolding(register::specs::Layout::put_record))]
 #[inline(always)]
 pub fn put_group_inlined(register: &mut [u32], i: usize, group: Group)
@@ -173,7 +173,7 @@ pub fn put_group_inlined(register: &mut [u32], i: usize, group: Group)
     }
 }
 
-// Group i of a register replaced; where there is none, nothing. Calls 4 to 7 replace one group: one copy serves them.
+// Group i of a register replaced; where there is none, nothing. Calls 1 and 4 to 7 put one group each: one copy serves them.
 pub fn put_group(register: &mut [u32], i: usize, group: Group)
     ensures { register.new ≡ put_group register.old i group }
 {
