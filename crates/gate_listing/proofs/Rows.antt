@@ -19,11 +19,11 @@ use Rattle.orders.specs.Host.{host_ok}
 use Rattle.std.specs.Prelude.{map, min}
 use Rattle.std.specs.List.{list_all}
 use Rattle.std.proofs.lemmas.List.{map-append}
-use Rattle.listing.specs.Keys.{key_of, among}
+use Rattle.listing.specs.Keys.{keys_differ, key_number, among}
 use Rattle.rows.specs.Row.{no_row, row_obeys, row_kept, row_at, row-at_kept}
 use Rattle.rows.specs.declared.Row.{Row}
-use Rattle.listing.proofs.Keyed.{kept_by_keys, key_held, crossed, new_behind, differ_new}
-use Rattle.listing.specs.Text.{row_text, row_put, listing_text, fresh, rows_kept, listing_kept, row_bytes}
+use Rattle.listing.proofs.Keyed.{kept_by_keys, code_held, class_held, kept_by_number, key_held, crossed, new_behind, differ_new}
+use Rattle.listing.specs.Text.{row_text, row_put, listing_text, key_of, fresh, rows_kept, listing_kept, row_bytes}
 use Rattle.listing.specs.Laws.{length_listing}
 use Rattle.gate_listing.specs.Listed.{rows_on, gate_rows, list_refusal}
 use Rattle.claim.specs.Step.{memory}
@@ -57,45 +57,82 @@ module _ (rs bs : List ℕ) where
   unfolding rows_on
   none_on = refl
 
+  made_more : {A : Type 0} (f : Row → A) (i : ℕ) → map f (rows_on rs bs 0 (i + 1)) ≡ map f (rows_on rs bs 0 i) ++ (f (row_at rs bs i).row ∷ [])
+  made_more f i =
+      ap (λ (k : ℕ). map f (rows_on rs bs 0 k)) (add-one i)
+      ∙ ap (map f) (rows_last 0 i ∙ ap (λ (k : ℕ). rows_on rs bs 0 i ++ ((row_at rs bs k).row ∷ [])) (zero-add i))
+      ∙ map-append f (rows_on rs bs 0 i) ((row_at rs bs i).row ∷ [])
+
   pub keys_more : (i : ℕ) → map key_of (rows_on rs bs 0 (i + 1)) ≡ map key_of (rows_on rs bs 0 i) ++ (key_of (row_at rs bs i).row ∷ [])
-  keys_more i =
-      ap (λ (k : ℕ). map key_of (rows_on rs bs 0 k)) (add-one i)
-      ∙ ap (map key_of) (rows_last 0 i ∙ ap (λ (k : ℕ). rows_on rs bs 0 i ++ ((row_at rs bs k).row ∷ [])) (zero-add i))
-      ∙ map-append key_of (rows_on rs bs 0 i) ((row_at rs bs i).row ∷ [])
+  keys_more = made_more key_of
+
+  pub numbers_more : (i : ℕ) → map key_number (rows_on rs bs 0 (i + 1)) ≡ map key_number (rows_on rs bs 0 i) ++ (key_number (row_at rs bs i).row ∷ [])
+  numbers_more = made_more key_number
+
+  -- whether those from i on keep the rules, each alone
+  unfoldable pub rest_kept : ℕ → ℕ → Bool
+  rest_kept i n = list_all row_kept (rows_on rs bs i (n - i))
+
+  pub rest_more : (i n : ℕ) → i < n → rest_kept i n ≡ (row_kept (row_at rs bs i).row && rest_kept (i + 1) n)
+  unfolding rest_kept
+  rest_more i n h = ap (list_all row_kept) (rows_first i n h)
+
+  pub rest_goes : (i n : ℕ) → i < n → row_kept (row_at rs bs i).row ≡ true → rest_kept i n ≡ rest_kept (i + 1) n
+  rest_goes i n h k = rest_more i n h ∙ ap (λ (b : Bool). b && rest_kept (i + 1) n) k
+
+  pub rest_none : (n : ℕ) → rest_kept n n ≡ true
+  unfolding rest_kept rows_on
+  rest_none n =
+      let e : n - n ≡ 0 = omega arith in
+      ap (λ (k : ℕ). list_all row_kept (rows_on rs bs n k)) e
+
+  pub rest_all : (n : ℕ) → rows_kept (rows_on rs bs 0 n) ≡ (rest_kept 0 n && keys_differ (map key_of (rows_on rs bs 0 n)))
+  unfolding rest_kept
+  rest_all n =
+      let e : n ≡ n - 0 = omega arith in
+      kept_by_keys (rows_on rs bs 0 n) ∙ ap (λ (k : ℕ). list_all row_kept (rows_on rs bs 0 k) && keys_differ (map key_of (rows_on rs bs 0 n))) e
 
   -- whether those from i on keep the rules, and none of them has the key of an earlier one
-  unfoldable pub rest_kept : ℕ → ℕ → Bool
-  rest_kept i n = list_all row_kept (rows_on rs bs i (n - i)) && new_behind (map key_of (rows_on rs bs 0 i)) (map key_of (rows_on rs bs i (n - i)))
+  unfoldable pub rest_new : ℕ → ℕ → Bool
+  rest_new i n = list_all row_kept (rows_on rs bs i (n - i)) && new_behind (map key_number (rows_on rs bs 0 i)) (map key_number (rows_on rs bs i (n - i)))
 
-  pub rest_more : (i n : ℕ) → i < n
-      → rest_kept i n ≡ ((row_kept (row_at rs bs i).row && not (among (key_of (row_at rs bs i).row) (map key_of (rows_on rs bs 0 i)))) && rest_kept (i + 1) n)
-  unfolding rest_kept new_behind
-  rest_more i n h =
+  pub rest_new_more : (i n : ℕ) → i < n
+      → rest_new i n ≡ ((row_kept (row_at rs bs i).row && not (among (key_number (row_at rs bs i).row) (map key_number (rows_on rs bs 0 i)))) && rest_new (i + 1) n)
+  unfolding rest_new new_behind
+  rest_new_more i n h =
       let r : Row = (row_at rs bs i).row in
       let later : List Row = rows_on rs bs (i + 1) (n - (i + 1)) in
-      let seen : List ℕ = map key_of (rows_on rs bs 0 i) in
-      rw (rows_first i n h, keys_more i) (crossed (row_kept r) (list_all row_kept later) (not (among (key_of r) seen)) (new_behind (seen ++ (key_of r ∷ [])) (map key_of later)))
+      let seen : List ℕ = map key_number (rows_on rs bs 0 i) in
+      rw (rows_first i n h, numbers_more i) (crossed (row_kept r) (list_all row_kept later) (not (among (key_number r) seen)) (new_behind (seen ++ (key_number r ∷ [])) (map key_number later)))
 
-  pub rest_none : (i n : ℕ) → n ≤ i → rest_kept i n ≡ true
-  unfolding rest_kept new_behind rows_on
-  rest_none i n h =
+  pub rest_new_none : (i n : ℕ) → n ≤ i → rest_new i n ≡ true
+  unfolding rest_new new_behind rows_on
+  rest_new_none i n h =
       let e : n - i ≡ 0 = omega arith in
       rw e refl
 
-  pub rest_all : (n : ℕ) → rows_kept (rows_on rs bs 0 n) ≡ rest_kept 0 n
-  unfolding rest_kept rows_on
-  rest_all n =
+  pub rest_new_all : (n : ℕ) → rows_kept (rows_on rs bs 0 n) ≡ rest_new 0 n
+  unfolding rest_new rows_on
+  rest_new_all n =
       let e : n ≡ n - 0 = omega arith in
-      kept_by_keys (rows_on rs bs 0 n)
-      ∙ ap (λ (b : Bool). list_all row_kept (rows_on rs bs 0 n) && b) (differ_new (map key_of (rows_on rs bs 0 n)))
-      ∙ ap (λ (k : ℕ). list_all row_kept (rows_on rs bs 0 k) && new_behind [] (map key_of (rows_on rs bs 0 k))) e
+      kept_by_number (rows_on rs bs 0 n)
+      ∙ ap (λ (b : Bool). list_all row_kept (rows_on rs bs 0 n) && b) (differ_new (map key_number (rows_on rs bs 0 n)))
+      ∙ ap (λ (k : ℕ). list_all row_kept (rows_on rs bs 0 k) && new_behind [] (map key_number (rows_on rs bs 0 k))) e
 
   -- a row read keeps the rules
   pub kept_where : (i : ℕ) → (row_at rs bs i).refusal ≡ 0 → row_kept (row_at rs bs i).row ≡ true
   kept_where = row-at_kept rs bs
 
-  -- its key is held as it is
-  pub key_at : (i : ℕ) → (row_at rs bs i).refusal ≡ 0 → min (key_of (row_at rs bs i).row) 4_294_967_295 ≡ key_of (row_at rs bs i).row
+  -- the numbers of its key are held as they are
+  module _ (i : ℕ) (h : (row_at rs bs i).refusal ≡ 0) where
+    pub code_at : min (row_at rs bs i).row.code 4_294_967_295 ≡ (row_at rs bs i).row.code
+    code_at = code_held (row_at rs bs i).row (row-at_kept rs bs i h)
+
+    pub class_at : min (row_at rs bs i).row.class 4_294_967_295 ≡ (row_at rs bs i).row.class
+    class_at = class_held (row_at rs bs i).row (row-at_kept rs bs i h)
+
+  -- and so is its key as one number
+  pub key_at : (i : ℕ) → (row_at rs bs i).refusal ≡ 0 → min (key_number (row_at rs bs i).row) 4_294_967_295 ≡ key_number (row_at rs bs i).row
   key_at i h = key_held (row_at rs bs i).row (row-at_kept rs bs i h)
 
   pub kept_first : (i n : ℕ) → i < n → rows_kept (rows_on rs bs i (n - i)) ≡ (row_kept (row_at rs bs i).row && (fresh (row_at rs bs i).row (rows_on rs bs (i + 1) (n - (i + 1))) && rows_kept (rows_on rs bs (i + 1) (n - (i + 1)))))

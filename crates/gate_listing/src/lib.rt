@@ -7,7 +7,7 @@ ghost use Rattle.std.proofs.Math.Seq.{paste};
 ghost use Rattle.rules.specs.Numbers.{refusal_number};
 ghost use Rattle.rows.specs.Row.{row_kept, row_at};
 ghost use Rattle.listing.specs.Text.{listing_text, rows_kept, row_bytes};
-ghost use Rattle.listing.specs.Keys.{key_of, among};
+ghost use Rattle.listing.specs.Keys.{key_number, among};
 ghost use Rattle.gate_listing.specs.Listed.{rows_on, list_refusal, listed};
 ghost use Rattle.claim.specs.Step.{memory};
 
@@ -22,7 +22,7 @@ use rules::refusals::{Refusal, refuse};
 // The key of a group's row, where it keeps its rules and none of those seen is the same.
 #[tactic(auto, using(crate::proofs::Rows::key_at, crate::proofs::Rows::kept_where, crate::proofs::Rows::none_kept))]
 fn new_key(register: &[u32], book: &[u64], group: u64, seen: &[u32]) -> Option<u32>
-    ensures { let row = (row_at register.now book.now group).row in result ≡ then_some (row_kept row && not (among (key_of row) seen.now)) (key_of row) }
+    ensures { let row = (row_at register.now book.now group).row in result ≡ then_some (row_kept row && not (among (key_number row) seen.now)) (key_number row) }
 {
     let key = key_of(row_at(register, book, group).ok()?);
     (!is_among(key, seen)).then_some(key)
@@ -30,7 +30,7 @@ fn new_key(register: &[u32], book: &[u64], group: u64, seen: &[u32]) -> Option<u
 
 // Kept (no plainer): `listing_text::lines_kept` is the same loop over lines; one function of both would take a closure, and its contract at both.
 // Whether the rows of the first n groups keep their rules, no code with its class repeated. No row is read behind the first that shows they do not.
-#[tactic(auto, using(crate::proofs::Rows::keys_more, crate::proofs::Rows::rest_more, crate::proofs::Rows::rest_none, crate::proofs::Rows::rest_all, crate::proofs::Rows::none_on, std::proofs::lemmas::List::take_more_set, std::proofs::lemmas::Grind::common_steps))]
+#[tactic(auto, using(crate::proofs::Rows::rest_all, crate::proofs::Rows::rest_goes, crate::proofs::Rows::numbers_more, crate::proofs::Rows::rest_new_more, crate::proofs::Rows::rest_new_none, crate::proofs::Rows::rest_new_all, crate::proofs::Rows::none_on, std::proofs::lemmas::List::take_more_set, std::proofs::lemmas::Grind::common_steps))]
 fn rows_kept(register: &[u32], book: &[u64], n: usize) -> bool
     requires { n ≤ 64 }
     ensures { result ≡ rows_kept (rows_on register.now book.now 0 n) }

@@ -10,6 +10,7 @@ use Rattle.columns.specs.Column.{column, optional_text, signed_text, part, holds
 use Rattle.columns.specs.Reading.{Optional}
 use Rattle.rows.specs.Row.{row_kept}
 use Rattle.rows.specs.declared.Row.{Row}
+use Rattle.listing.specs.declared.keys.Key.{Key}
 use Rattle.listing.specs.declared.reader.ListingReader.{ListingReader}
 use Rattle.listing.specs.declared.texts.Step.{Step}
 use Rattle.listing.specs.declared.texts.Step.TheVariants.{Next, Broken, End}
@@ -88,6 +89,9 @@ listing_text [] = []
 listing_text (r ∷ rs) = row_text r ++ listing_text rs
 
 -- "code with class not repeated" (Lines and columns)
+abbrev pub key_of : Row → Key
+key_of r = record { code = r.code; class = r.class }
+
 abbrev pub same_key : Row → Row → Bool
 same_key r s = eqb r.code s.code && eqb r.class s.class
 

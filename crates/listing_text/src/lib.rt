@@ -5,7 +5,7 @@ ghost use Rattle.std.specs.Prelude.{◌≡◌, ◌≤◌, ◌&&◌, not, length}
 ghost use Rattle.std.specs.Bool.{then_some};
 ghost use Rattle.rules.specs.Numbers.{refusal_number};
 ghost use Rattle.listing.specs.Text.{row_good, is_listing, refusal_of_text, step_at, step_in, next_at};
-ghost use Rattle.listing.specs.Keys.{among, line_key, lines_kept};
+ghost use Rattle.listing.specs.Keys.{among, line_key_number, lines_kept};
 
 use columns::bytes::{column_at, holds};
 use listing::keys::{is_among, key_of};
@@ -21,7 +21,7 @@ const MOST_ROWS: usize = MOST_GROUPS as usize;
 // The key of a line that is a row, where none of those seen is the same.
 #[tactic(auto, using(crate::proofs::Turns::key_in))]
 fn new_key(line: &[u8], seen: &[u32]) -> Option<u32>
-    ensures { result ≡ then_some (row_good line.now && not (among (line_key line.now) seen.now)) (line_key line.now) }
+    ensures { result ≡ then_some (row_good line.now && not (among (line_key_number line.now) seen.now)) (line_key_number line.now) }
 {
     let key = key_of(read_line(line)?);
     (!is_among(key, seen)).then_some(key)
@@ -29,7 +29,7 @@ fn new_key(line: &[u8], seen: &[u32]) -> Option<u32>
 
 // Kept (no plainer): `gate_listing::rows_kept` is the same loop over groups; one function of both would take a closure, and its contract at both.
 // Whether each line is a row, and no code with its class is repeated. No line is read behind the first that shows they are not.
-#[tactic(auto, using(crate::proofs::Turns::kept_rest, crate::proofs::Turns::rest_more, crate::proofs::Turns::rest_none, crate::proofs::Turns::keys_more, std::proofs::lemmas::List::take_more_set, std::proofs::lemmas::Grind::common_steps))]
+#[tactic(auto, using(listing::proofs::Keyed::kept_same, crate::proofs::Turns::good_more, crate::proofs::Turns::kept_rest, crate::proofs::Turns::rest_more, crate::proofs::Turns::rest_none, crate::proofs::Turns::numbers_more, std::proofs::lemmas::List::take_more_set, std::proofs::lemmas::Grind::common_steps))]
 fn lines_kept(lines: &[[u8; ROW]]) -> bool
     requires { length lines.now ≤ 64 }
     ensures { result ≡ lines_kept lines.now }
